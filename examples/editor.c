@@ -228,7 +228,8 @@ static int is_after_line(size_t pos) {
            last == 0x2029;
 }
 
-/* Replaces characters, and moves the caret after the new text, or before what follows it. */
+/* Replaces characters, and puts the caret on a side of the end of the new text: on `side`, or if a line or paragraph
+ * starts there, before the character that follows. */
 static void replace(hordguli_cluster old, const char *text, size_t length, uint32_t side) {
     hordguli_changed changed;
     size_t count;
@@ -276,7 +277,7 @@ static int next_byte(void) {
     }
 }
 
-/* Executes an escape sequence: `[` or `O`, an optional number, `;` and a digit if Shift (1) or Ctrl (4) is pressed, and
+/* Handles an escape sequence: `[` or `O`, an optional number, `;` and a digit if Shift (1) or Ctrl (4) is pressed, and
  * the key's letter. For some keys, a number and `~` take the place of the letter. */
 static void escape(void) {
     size_t line = caret_place().line, column = caret_place().column, all = counts().lines;
@@ -301,7 +302,7 @@ static void escape(void) {
     if ((modifiers & 1) == 0) anchor = caret;
 }
 
-/* Executes a key and stores its name in `name`. Returns 0 to quit. */
+/* Handles a key press, and stores the key's name in `name`. Returns 0 to quit. */
 static int obey(int byte, char *name) {
     int more = byte >= 0xF0 ? 3 : byte >= 0xE0 ? 2 : byte >= 0xC0 ? 1 : 0;
     size_t length = 1;

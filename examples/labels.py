@@ -3,7 +3,7 @@
 
     python3 examples/labels.py PICTURE
 
-Matplotlib draws characters from left to right, and shapes nothing. So it gets lines in visual order. arabic_reshaper replaces Arabic
+Matplotlib draws characters from left to right, without shaping them. So it gets lines in visual order. arabic_reshaper replaces Arabic
 letters with characters for their joined forms, which Matplotlib's own font has. Needs Debian's python3-matplotlib and
 python3-arabic-reshaper.
 """

@@ -3,7 +3,7 @@
 
     python3 examples/report.py PDF FONT < TEXT
 
-ReportLab draws characters from left to right, and shapes nothing. So it gets lines in visual order. arabic_reshaper replaces Arabic
+ReportLab draws characters from left to right, without shaping them. So it gets lines in visual order. arabic_reshaper replaces Arabic
 letters with characters for their joined forms, which FONT must have. Needs Debian's python3-reportlab and python3-arabic-reshaper.
 """
 import sys
@@ -25,7 +25,7 @@ def measure(paragraph):
 
 
 def write(content, file, page):
-    """Writes a PDF with pages of a size."""
+    """Writes a PDF. `page` is the size of its pages."""
     canvas, y = Canvas(file, page), 0
     with hordguli.Session(reshape(content), int((page[0] - 2 * MARGIN) * UNITS), measure=measure) as text:
         for line in text:

@@ -16,7 +16,7 @@ SIZE = 26  # of the letters, in pixels
 
 
 def is_whole(text):
-    """Whether no line of a session ends inside a word."""
+    """Returns whether no line of a session ends inside a word."""
     for line in text:
         paragraph = text.paragraph(text.place(line.start).paragraph)
         if not paragraph.breaks[line.start + line.length - 1 - paragraph.start]:
@@ -37,7 +37,7 @@ def balance(text):
 
 
 def marked(line):
-    """Returns a line as a player needs it."""
+    """Returns a line, after a mark if it would otherwise get another direction than its paragraph."""
     is_other = hordguli.base_level(line.logical_text) != line.base_level
     return ("\u200e", "\u200f")[line.base_level] * is_other + line.logical_text
 

@@ -23,7 +23,7 @@ from gi.repository import Gdk, Gtk
 
 
 class Field(Gtk.DrawingArea):
-    """The text is that of a session. `edge` is the caret, and the selection is between `anchor` and the position of the caret."""
+    """Shows the text of a session. `edge` is the caret, and the selection is between `anchor` and the position of the caret."""
 
     def __init__(self, files):
         super().__init__(focusable=True, hexpand=True, vexpand=True)
@@ -69,7 +69,7 @@ class Field(Gtk.DrawingArea):
         context.mask_surface(cairo.ImageSurface.create_for_data(rows, cairo.FORMAT_A8, picture.width, picture.height, stride))
 
     def padding(self, line):
-        """Returns the padding of a line, also of the empty one after a separator at the end."""
+        """Returns the padding of a line, which can be the empty one after a separator at the end."""
         return self.session[line].padding if line < len(self.session) else 0
 
     # ---- The caret and the selection ----

@@ -246,9 +246,9 @@ const char *hordguli_width_unicode_version(void);
 #define HORDGULI_SHOW_SPACES UINT32_C(64)
 /* Sets a tab stop every `n` columns, from 1 to 255. Columns are counted along each line in logical order. A tab (U+0009
  * of bidi class S) moves to the next stop, so it is 1 to `n` columns wide, and is written as spaces. In an RTL
- * paragraph, stops are counted from the right edge. A tab is not in the tail, and one that does not fit is wider than
- * its line. A greater `n` is refused with UNKNOWN_OPTION. `n` is evaluated twice. In a measured session, tabs have
- * their own stops (see MEASURED TEXT). Since 0.6. */
+ * paragraph, stops are counted from the right edge. A tab is not in the tail. A tab that is wider than the width gets a
+ * line of its own. A greater `n` is refused with UNKNOWN_OPTION. `n` is evaluated twice. In a measured session, tabs
+ * have their own stops (see MEASURED TEXT). Since 0.6. */
 #define HORDGULI_TAB_WIDTH(n) ((uint32_t)(n) > 255 ? UINT32_C(1) << 16 : (uint32_t)(n) << 8)
 /* Ends paragraphs at LF, CR and CRLF only, as LSP, Git and most editors end lines: U+001C to U+001E, U+0085 and U+2029
  * have bidi class S (segment separator) where the tables give them B. U+0085 and U+2029 still end lines, not
@@ -1147,7 +1147,7 @@ typedef struct hordguli_reason {
     uint8_t level;           /* as `hordguli_levels` stores it */
     uint8_t sos;             /* direction of the sequence's start, L or R */
     uint8_t eos;             /* direction of its end */
-    uint8_t bracket_case;    /* HORDGULI_BRACKET_CASE_.., or 0 if it is no bracket */
+    uint8_t bracket_case;    /* HORDGULI_BRACKET_CASE_.., or 0 if it is not a bracket */
     uint8_t neutral;         /* HORDGULI_NEUTRAL_.., or 0 if its type after N0 is not neutral */
 } hordguli_reason;
 

@@ -5,7 +5,7 @@
 # Each line is a path relative to the prefix. Folders that the installation made end in "/", and "./" is the prefix. Paths in a LIBDIR or
 # ZSHDIR outside the prefix are absolute. Older lists have only absolute paths.
 #
-# Nothing outside these folders is removed. A list is refused as a whole, before anything is removed, if an entry is no such path, or
+# Nothing outside these folders is removed. A list is refused as a whole, before anything is removed, if an entry is not such a path, or
 # leads outside because of a symbolic link. The folders themselves may be symbolic links.
 #
 # The caller sets these variables. Folders are absolute, without a "/" at the end:

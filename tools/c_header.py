@@ -52,7 +52,7 @@ class Constant(NamedTuple):
 
 
 def known(found, text):
-    """Returns a match, and ends the program if there is none."""
+    """Returns a match. Ends the program if there is none."""
     return found or sys.exit(f"a declaration in an unknown form: {text[:80]}")
 
 

@@ -38,7 +38,7 @@ def fail(what):
 
 
 def named(kind):
-    """Returns the Rust type of a C type that is no pointer."""
+    """Returns the Rust type of a C type that is not a pointer."""
     return SCALARS.get(kind) or (kind if kind.startswith("hordguli_") else fail(kind))
 
 
@@ -69,7 +69,7 @@ def constant(header, one):
 
 
 def documentation(header, name, indent=""):
-    """Returns the comment above the declaration of a struct or function, as documentation of Rust."""
+    """Returns the comment above the declaration of a struct or function, as a Rust doc comment."""
     found = re.search(rf"/\* ((?:(?!\*/)[^~])*?) ?\*/\n[^\n;{{]*\b{name}\b(?: \{{|\()", header.text)
     lines, is_code = [], False
     for line in found[1].split("\n") if found else []:

@@ -1,9 +1,9 @@
 //! Compares the crate `hordguli` with `unicode-bidi` and `unicode-linebreak`: strings in UTF-8 that are laid out at 80 columns, their
-//! levels and break marks alone, and edits. Prints nanoseconds, the minimum of several alternating runs, and the ratio. A ratio above a
+//! levels and break marks, and edits. Prints nanoseconds, the minimum of several alternating runs, and the ratio. A ratio above a
 //! third has a star.
 //!
-//! All words are of characters of one column, so the other crates count characters. They neither mirror nor pad lines, so they do a
-//! little less. Both keep what can be kept from call to call.
+//! All characters have one column, so the other crates count characters. They neither mirror nor pad lines, so they do a little less.
+//! Each side keeps what it can reuse from call to call.
 use std::hint::black_box;
 use std::time::Instant;
 
@@ -89,7 +89,7 @@ impl Random {
     }
 }
 
-/// Appends the lines of a paragraph, by the other crates.
+/// Appends the lines of a paragraph, found with the other crates.
 fn other_lines(text: &str, out: &mut String) {
     let info = BidiInfo::new(text, None);
     let paragraph = &info.paragraphs[0];
@@ -113,7 +113,7 @@ fn other_lines(text: &str, out: &mut String) {
     push(start, text.len());
 }
 
-/// Returns how much the time of each call is at least, in nanoseconds per repetition.
+/// Returns the minimum time of each call, in nanoseconds per repetition.
 fn measured(repeats: usize, mut ours: impl FnMut(), mut other: impl FnMut()) -> (f64, f64) {
     let (mut least, mut other_least) = (f64::INFINITY, f64::INFINITY);
     let time = |call: &mut dyn FnMut()| {

@@ -19,8 +19,8 @@ What to know before the first line:
   terminals with bidirectional text and Pillow with Raqm, would reverse it again. They need `Line.logical_text`, or the pieces of
   `Line.left_to_right()`.
 - `display` does not join Arabic letters: `display(arabic_reshaper.reshape(text))` does.
-- Columns, as in carets, hits and spans, start at the left edge of a line's shown part. Add `Line.padding` to draw a right-to-left
-  line at the right. The lines of `wrap` and `Session.lines` are padded with spaces.
+- The columns of carets, hits and spans are counted from the left edge of a line's shown part. Add `Line.padding` to draw a
+  right-to-left line at the right. The lines of `wrap` and `Session.lines` are padded with spaces.
 - Positions are indexes into a `str`. Positions, lines and columns are counted from 0.
 - A caret moves over one caret unit: a grapheme cluster or, if its characters are in several level runs, the part in one of them.
 
@@ -41,7 +41,7 @@ Exceptions:
 - `ValueError` for a width, for options, for a Unicode version, and for a lone surrogate (`UnicodeEncodeError`)
 - `ValueError` from `Session`, `wrap` and `explain` for a text of more than 16,777,216 characters, or a paragraph of more than
   1,048,576; the other functions have no such limits
-- `ValueError` for what a function `measure` returns, and `RuntimeError` if it uses the session that calls it
+- `ValueError` if a function `measure` returns invalid advances, and `RuntimeError` if it uses the session that calls it
 - `NotMeasuredError` for the advances of a session that is not measured
 - `TypeError` for a `Print` in place of `Options`, and for copying or pickling sessions and tables
 - `MemoryError`, `ClosedError`, `TableError`

@@ -146,7 +146,7 @@ def advances_of(measure: Measure, paragraph: ParagraphText) -> bytes:
 
 
 def flags(kind: type[Flags], given: Flags, name: str) -> Flags:
-    """Returns options or print flags. A plain number will do, but not a member of another enumeration of this package.
+    """Returns options or print flags. Accepts a plain number, but not a member of another enumeration of this package.
 
     Raises `TypeError` for such a member, and `ValueError` for a number that does not fit a `uint32_t`.
     """

@@ -15,7 +15,7 @@ from ._records import Options, Print, Side
 class ClosedError(ValueError):
     """The session or the tables are closed.
 
-    A forked child also gets it for what another thread was using during the fork.
+    Also raised in a forked child for what another thread was using during the fork.
     """
 
 

@@ -39,7 +39,7 @@ _COLUMNS = {
 _CHARACTER_COLUMNS = 4  # of a terminal, for the column "char"
 _FIXED = Options.LTR, Options.RTL  # for each base level
 _POSITIONS = "opener", "matching", "sequence", "partner", "inside", "left", "right", "base", "behind_spaces"  # (fields of reasons)
-# What a page writes in the place of a character that has no glyph.
+# What a page shows in place of a character that has no glyph.
 _LABELS = {
     "\t": "TAB", "\n": "LF", "\r": "CR", "\u061c": "ALM", "\u200b": "ZWSP", "\u200c": "ZWNJ", "\u200d": "ZWJ", "\u200e": "LRM",
     "\u200f": "RLM", "\u202a": "LRE", "\u202b": "RLE", "\u202c": "PDF", "\u202d": "LRO", "\u202e": "RLO", "\u2060": "WJ", "\u2066": "LRI",

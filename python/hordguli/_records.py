@@ -14,12 +14,12 @@ _TAB_OR_MORE = re.compile("\t|[^\t]+")
 
 
 class Options(enum.IntFlag):
-    """Options of a layout: one base direction and any of the others, combined by `|`.
+    """Options of a layout: one base direction and any of the others, combined with `|`.
 
     `WEAK_LTR`, `WEAK_RTL`: a paragraph has the direction of its first strong character, else the one named.
     `LTR`, `RTL`: all paragraphs have this direction.
     Without a direction, it is `WEAK_LTR`. Two different directions raise `ValueError` in each call that they are passed to.
-    Directions share bits, so find out by `Options.LTR in options`, not by `&`, which one options have.
+    Directions share bits, so use `Options.LTR in options`, not `&`, to find out which one is set.
     `NOBREAK`: lines end at mandatory breaks only.
     `REORDER_NSM`: in right-to-left text, nonspacing marks come after their base in visual order (UAX #9, L3).
     `WHOLE_NUMBERS`: lines do not end inside a number such as `$1,234.56`.
@@ -58,7 +58,7 @@ class Options(enum.IntFlag):
 
 
 class Print(enum.IntFlag):
-    """What to write for each line, in this order. Combine by `|`.
+    """What to write for each line, in this order. Combine flags with `|`.
 
     `VISUAL`: the line in visual order. `BASEDIR`: `LTR` or `RTL`, after the first line of a paragraph.
     `LTOV`, `VTOL`: the position maps. `LEVELS`: the levels after L1.

@@ -22,7 +22,7 @@ _LETTERS = {"LETTER", "CAPITAL", "SMALL", "SYLLABLE"}
 
 class Before(NamedTuple):
     """What is before a character in its isolating run sequence: the nearest character, the nearest strong one, and the nearest one that
-    is strong or a number after N0, each if there is one. The last two are no marks."""
+    is strong or a number after N0, each if there is one. The last two are not marks."""
 
     character: Optional[int] = None
     strong: Optional[int] = None

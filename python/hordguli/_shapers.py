@@ -21,7 +21,7 @@ class Shaper(Protocol):
     """A way to use HarfBuzz. Scripts are ISO 15924 tags."""
 
     def open(self, file: str, scale: int) -> Any:
-        """Returns the font of a file that exists. Raises `ValueError` if it is none."""
+        """Returns the font of a file that exists. Raises `ValueError` if it is not a font file."""
 
     def has(self, font: Any, c: str) -> bool:
         """Whether a font has a character."""
@@ -122,7 +122,7 @@ class Library:
 
 
 class Introspected:
-    """HarfBuzz by PyGObject. Debian's packages are `python3-gi`, `gir1.2-harfbuzz-0.0` and `libharfbuzz-gobject0`."""
+    """HarfBuzz through PyGObject. Debian's packages are `python3-gi`, `gir1.2-harfbuzz-0.0` and `libharfbuzz-gobject0`."""
 
     def __init__(self) -> None:
         import_module("gi").require_version("HarfBuzz", "0.0")

@@ -1,10 +1,10 @@
-"""Measures text with font files, using HarfBuzz. Importing this module is an `ImportError` where none of these is installed:
+"""Measures text with font files, using HarfBuzz. Importing this module raises `ImportError` if none of these is installed:
 
 1. HarfBuzz's library `libharfbuzz.so.0`, from Debian's package `libharfbuzz0b`
 2. PyGObject with HarfBuzz: Debian's packages `python3-gi`, `gir1.2-harfbuzz-0.0` and `libharfbuzz-gobject0`
 3. the package `uharfbuzz`
 
-The first that is installed is used. All measure the same, the library fastest.
+The first that is installed is used. All return the same advances. The library is the fastest.
 
     >>> import hordguli
     >>> from hordguli.harfbuzz import UNITS, Measure
@@ -65,7 +65,7 @@ class Measure:
     A paragraph is shaped as a whole. If a line ends inside a kerned pair, a ligature or a word whose letters join, what is drawn
     can be wider or narrower than measured.
 
-    Raises `OSError` if a file cannot be read, and `ValueError` if it is no font, if no font is given, or if the size is not from 1/64
+    Raises `OSError` if a file cannot be read, and `ValueError` if it is not a font, if no font is given, or if the size is not from 1/64
     to 65,535. Several sessions and threads may share a `Measure`. It keeps the advances of up to 4,096 short runs and as many of their
     parts, so an edit shapes only what it changes and the runs next to that.
 
@@ -103,7 +103,7 @@ class Measure:
         return advances
 
     def parts(self, piece: Piece) -> list[Part]:
-        """Returns the parts of a piece of a line from left to right, for drawing. Tabs and other control characters are in no part."""
+        """Returns the parts of a piece of a line from left to right, for drawing. No part contains tabs or other control characters."""
         parts, left = [], piece.left
         split = self._split(piece.text, 0, len(piece.text))
         for first, end, font, script in split[::-1] if piece.level % 2 else split:

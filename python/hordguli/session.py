@@ -95,7 +95,7 @@ class Session:
     The session calls `measure` for each paragraph when it opens. Before an edit, it calls `measure` for each paragraph whose text
     the edit will change, with the new text. If `measure` raises an exception, the session is unchanged. Further exceptions:
 
-    - `ValueError` if `measure` returns the wrong number of advances, or one that is negative or no whole number, or if the
+    - `ValueError` if `measure` returns the wrong number of advances, or one that is negative or not a whole number, or if the
       advances of a paragraph add up to more than 4,294,967,295. A paragraph that joins others is also refused if their old
       advances add up to more.
     - `RuntimeError` if `measure` uses the session. Other threads that use it wait until the edit ends.
@@ -148,8 +148,8 @@ class Session:
         session, are in this unit. A new character has advance 0, until `set_advances` sets it.
 
         The advances of a paragraph add up to at most 4,294,967,295. An edit that would exceed this raises `ValueError`. With
-        `Options.tab_width`, a tab moves to the next multiple of its own advance, or stays where it is if that is 0. `lines` pads
-        nothing; `Line.padding` is what aligns a line right.
+        `Options.tab_width`, a tab moves to the next multiple of its own advance, or stays where it is if that is 0. `lines` adds
+        no padding; `Line.padding` is the padding that right-aligns a line.
 
         >>> advances = {"i": 4 * 64, "n": 9 * 64, " ": 5 * 64}
         >>> with hordguli.Session.open_measured("inn in", width=30 * 64) as text:

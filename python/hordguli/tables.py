@@ -39,8 +39,8 @@ class Tables:
     Without `files`, these are the tables that the library contains. `files` is a folder that has the seven files named in
     `TABLE_FILES`, the contents of these files in this order, or the bytes of a compiled image.
 
-    `unicode` is the Unicode version, "15.0" or "17.0", which decides by which rules levels and line breaks are found. If it is
-    not given, it is 15.0, or that of the image.
+    `unicode` is the Unicode version, "15.0" or "17.0", which selects the rules for levels and line breaks. If it is not given, it
+    is 15.0, or that of the image.
 
     Raises `TableError` if a file cannot be read, if a file or the image is malformed, or if the image has another version. Raises
     `ValueError` for an unknown version. The `__cause__` of a `TableError` for an unread file is an `OSError`.

@@ -67,7 +67,7 @@ def display(
     `direction` is a base direction of `Options`, by default `Options.WEAK_LTR`. `base_dir` is the parameter of python-bidi: `"L"` is
     `Options.LTR`, and `"R"` is `Options.RTL`.
 
-    Raises `TypeError` if both are given. Raises `ValueError` for another `base_dir`, for other options, for a lone surrogate, and
+    Raises `TypeError` if both are given. Raises `ValueError` for any other `base_dir`, for other options, for a lone surrogate, and
     for `bytes` that cannot be decoded.
 
     What differs from python-bidi 0.4.2 (Debian 12):

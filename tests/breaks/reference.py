@@ -1,6 +1,6 @@
 """Reference implementation of line breaking (UAX #14) for Unicode 15.0 and 17.0.
 
-At each position, the rules are tried one after another. They have the notation of LineBreakTest.html, section Rules: regular expressions
+At each position, the rules are tried one after another. They are written as in LineBreakTest.html, section Rules: regular expressions
 on the characters before and after a position. LB9 and LB10 rewrite the text, so that later rules see one character for each base.
 """
 import functools, itertools, re
@@ -244,7 +244,7 @@ AL = LETTERS[Character("AL")]
 
 
 def pattern(tree, is_reversed=False):
-    """Returns a tree as an expression of `re` on letters. With `is_reversed`, it is for a text in reverse order."""
+    """Returns a tree as an expression of `re` on letters. With `is_reversed`, it matches a text in reverse order."""
     kind = tree[0]
     if kind == "one":
         _, is_excluded, names = tree

@@ -27,14 +27,14 @@ def random_text(chance):
 
 
 def random_texts(count, seed=17):
-    """Yields texts of characters with any properties, also such as no character has."""
+    """Yields texts of characters with any combination of properties, even one that no real character has."""
     chance = random.Random(seed)
     for _ in range(count):
         yield random_text(chance)
 
 
 def random_code_points(tables, count, seed, is_left_out=lambda c: False):
-    """Yields texts of code points, without characters that are left out. All properties that characters have are as frequent."""
+    """Yields texts of code points, without those that are left out. Chooses among combinations of properties, not among characters."""
     code_points = {}
     for c in range(0x110000):
         character = tables.character(c)

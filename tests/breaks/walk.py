@@ -5,7 +5,7 @@ and an outcome: a mark, or a question about the bases after the next one. For ea
 has the answer, which is again a mark or a question.
 
 Four bits describe the last bases: whether the last character is a ZWJ (LB8a), whether the last base is a future pictograph (LB30b), and
-whether the last base and the base before it are wide (LB19a). A state does not depend on these bits, and an outcome may.
+whether the last base and the base before it are wide (LB19a). A state does not depend on these bits, but an outcome may.
 """
 import itertools
 

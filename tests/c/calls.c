@@ -1218,7 +1218,7 @@ static void spaces_at_line_ends(void) {
     CARET(2, BEFORE, 0, 1, 1);
     CARET(3, BEFORE, 0, 0, 1);
     ENDS(0, 0, 3, BEFORE);
-    /* U+3000 is in no tail */
+    /* U+3000 is never in a tail */
     for (uint32_t options = 0; options <= HORDGULI_SHOW_SPACES; options += HORDGULI_SHOW_SPACES) {
         show("abc\u3000", options, 5);
         LINE(0, 4, 4, 5, 0);
@@ -1263,7 +1263,7 @@ static void tab_stops(void) {
     LINE(0, 3, 2, 2, 0);
     LINE(1, 4, 4, 5, 0);
     CARET(6, BEFORE, 1, 4, 0);
-    /* a tab that does not fit is wider than its line */
+    /* a tab that is wider than the width gets a line of its own */
     show("abc\td", HORDGULI_TAB_WIDTH(4), 3);
     LINE(0, 3, 3, 3, 0);
     LINE(1, 1, 1, 4, 0);
@@ -1874,7 +1874,7 @@ static const struct {
     {"\u202ea(\u202c", 0, 2, {0, NP, 1, NP, NP, NP, NP, {ON, R, R, R, R, R, R, R, R, R, R}, R, 1, 1, R, R, NOT_OTHER, 0}},
     {"\u202ea(\u202c", 0, 3, {0, NP, NP, NP, NP, 2, NP, REMOVED(PDF), R, 1, 1, NC, NC, 0, 0}},
     {"\u202d\u05d0", HORDGULI_RTL, 1, {0, NP, 1, NP, NP, NP, NP, {R, L, L, L, L, L, L, L, L, L, L}, L, 2, 2, L, L, 0, 0}},
-    /* Positions count in the paragraph: the second sequence has the letter alone. */
+    /* Positions count in the paragraph: the second sequence has only the letter. */
     {"\u2067a\u2069(b)", 0, 0, {NP, 2, 0, NP, NP, NP, 3, TO_N(RLI, L), NC, 0, 0, L, L, 0, N1}},
     {"\u2067a\u2069(b)", 0, 1, {0, NP, 1, NP, NP, NP, NP, ALL(L), NC, 1, 2, R, R, 0, 0}},
     {"\u2067a\u2069(b)", 0, 2, {NP, 0, 0, NP, NP, NP, 3, TO_N(PDI, L), NC, 0, 0, L, L, 0, N1}},

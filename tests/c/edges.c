@@ -347,7 +347,7 @@ static void words_are_right(hordguli_session *session) {
                 HOLDS(boundary == -1 || boundary == (k == pos));
             }
             has_letter |= strchr("LDK", word_class(text[k])) != NULL || text[k] == 0x6F22 || text[k] == 0x5B57;
-            may_have |= word_class(text[k]) == '?' || word_class(text[k]) == 'E'; /* a vowel sign, say */
+            may_have |= word_class(text[k]) == '?' || word_class(text[k]) == 'E'; /* such as a vowel sign */
         }
         HOLDS(may_have || word.kind == (uint32_t)has_letter);
         HOLDS(!has_letter || word.kind == 1);

@@ -578,7 +578,7 @@ static void columns_are_right(int has_units) {
     }
 }
 
-/* Nothing is padded, and tabs are written unchanged. */
+/* Lines are not padded, and tabs are written unchanged. */
 static void print_is_right(void) {
     static char expected[PRINTED], found[PRINTED];
     size_t size = 0, written = 0;

@@ -287,7 +287,7 @@ enum { BRACKETS = sizeof brackets / sizeof *brackets };
 static const char *const quotes[] = {"\u00ab", "\u00bb", "\u201c", "\u2019", ".", "!", "-", "/", "\ua9a7", "\u25cc"};
 enum { QUOTES = sizeof quotes / sizeof *quotes };
 
-/* Puts pieces into `text`: of all kinds, and in part many brackets or quotation marks. */
+/* Puts pieces of all kinds into `text`. A third of the texts have many brackets, and another third many quotation marks. */
 static void choose_text(void) {
     size_t theme = below(3), pieces = below(PIECES);
     length = 0;

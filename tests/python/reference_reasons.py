@@ -216,7 +216,7 @@ def w1(types, sos):
 
 
 def after_strong(types, sos, strong, new):
-    """Returns the types with a new one for each EN after which type of STRONG comes first, in search backward from it, is `strong`."""
+    """Returns the types with a new one for each EN for which a search backward first finds `strong` among the types in STRONG."""
     result, last = [], sos
     for one in types:
         last = one if one in STRONG else last

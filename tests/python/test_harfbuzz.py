@@ -190,7 +190,7 @@ def caption(source, text, width):
 
 
 def expected(text, width):
-    """Returns the picture that has each word where the session says, found without pieces and parts."""
+    """Returns the expected picture, with each word at its place in the session, without using `pieces` or `parts`."""
     measure, files, fonts = Measure(NOTO, SIZE), NOTO, [pillow(file) for file in NOTO]
     with Session(text, width * UNITS, measure=measure) as session:
         picture = Image.new("L", (width + 2 * MARGIN, len(session) * HEIGHT + 2 * MARGIN), 255)

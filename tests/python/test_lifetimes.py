@@ -1,4 +1,4 @@
-"""Threads, fork, the garbage collector and refused memory."""
+"""Threads, fork, the garbage collector and failed allocations."""
 
 import ctypes
 import gc
@@ -211,7 +211,7 @@ def test_forks_during_calls_of_other_threads():
             thread.join()
 
 
-# ---- Refused memory ----
+# ---- Failed allocations ----
 
 EDITS = {
     "insert": lambda text: text.insert(2, f"x{HEBREW}\ny"),

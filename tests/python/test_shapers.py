@@ -86,7 +86,7 @@ def uharfbuzz(monkeypatch):
 
 @pytest.fixture(params=[Introspected, Uharfbuzz])
 def other(request, uharfbuzz):
-    """Another way than the library."""
+    """A way to use HarfBuzz other than the library itself."""
     return request.param
 
 
@@ -261,7 +261,7 @@ def test_a_measure_frees_what_it_has():
         destroy = owned._destroy
         owned._destroy = lambda pointer, destroy=destroy: (freed.append(pointer), destroy(pointer))
     del measure, owned
-    assert len(freed) == 2  # (at once: no cycle holds them)
+    assert len(freed) == 2  # (they are freed immediately, since no cycle holds them)
 
 
 def test_threads_share_a_measure():

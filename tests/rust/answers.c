@@ -1,6 +1,6 @@
 /* Prints a checksum of all that the C library returns for random sessions. tests/rust/src/bin/answers.rs does the same
  * through the Rust crate, with the same pseudorandom numbers, so both programs must print the same output. Usage:
- * answers FIRST COUNT [print], for the sessions with these numbers. With `print`, prints each value too. */
+ * answers FIRST COUNT [print], for COUNT sessions from number FIRST on. With `print`, prints each value too. */
 #include <hordguli.h>
 #include <stdio.h>
 #include <stdlib.h>
@@ -54,7 +54,7 @@ static void tell_bytes(const char *name, const char *bytes, size_t length) {
         for (size_t k_ = 0; k_ < (count); k_++) tell(name, (array)[k_]); \
     } while (0)
 
-/* Makes a text in UTF-8, and returns the number of its bytes. */
+/* Makes a random text of `count` characters in UTF-8, and returns its length in bytes. */
 static size_t random_text(size_t count, char *into) {
     size_t at = 0;
     while (count-- > 0) {

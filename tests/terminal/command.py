@@ -1,4 +1,4 @@
-"""Runs `hordguli`, and reads its output back."""
+"""Runs `hordguli`, and parses its output."""
 import os, re, resource, signal, subprocess, tempfile, time
 from typing import NamedTuple
 
@@ -51,7 +51,7 @@ class Costs(NamedTuple):
 
 
 def measured(words, path, output_path, seconds, by_byte=False):
-    """Runs the command on a file. Returns its status, its message, the time that passes and that of the processor, and the greatest resident set.
+    """Runs the command on a file. Returns its status, its message, the elapsed time, the processor time, and the peak resident set size.
 
     With `by_byte`, the command reads the file from a pipe, one byte at a time.
     """
@@ -83,7 +83,7 @@ def limit(seconds):
     signal.alarm(4 * seconds)
 
 
-# ---- Reading output back ----
+# ---- Parsing output ----
 
 # What the command may write: all attributes at once, from the default style, in this order; or a link.
 COLOUR = r"{0}[0-7]|{1}[0-7]|{0}8;5;\d+|{0}8;2;\d+;\d+;\d+"
@@ -98,7 +98,7 @@ LINK = re.compile(r"\x1b\]8;([^;\x00-\x1f\x7f-\x9f]*);([^\x00-\x1f\x7f-\x9f]*)\x
 def read_back(line):
     """Returns the characters of a line of output, each with its attributes and link, or a text that says what is wrong.
 
-    Attributes are the parameters that set them. They differ from those of the model in nothing else.
+    Attributes are the parameters that set them. This is the only difference from the attributes of the model.
     """
     cells, attributes, link, at = [], "", None, 0
     while at < len(line):

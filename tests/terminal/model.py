@@ -67,7 +67,7 @@ class Settings(NamedTuple):
 
 
 def settings(words, columns=None):
-    """Returns what arguments mean. `columns` is the variable COLUMNS. The last of several equal options counts."""
+    """Parses arguments. `columns` is the environment variable COLUMNS. If an option is repeated, the last one counts."""
     found, at = {}, 0
     while at < len(words):
         name, equals, value = words[at].partition("=")
@@ -138,7 +138,7 @@ COLOURED = {38: "foreground", 48: "background", 58: "underline_colour"}
 
 
 def number(digits):
-    """Returns a parameter's number, or any that means nothing if it has many digits. An empty one is 0."""
+    """Returns a parameter's number, or a meaningless one if it has many digits. An empty parameter is 0."""
     return int(digits.lstrip("0")[:9] or "0")
 
 
@@ -339,8 +339,8 @@ class Layout:
         return count
 
     def prefix_length(self, text):
-        """Returns how many characters of a paragraph are its quote or prefix. Without either, it is 0. What has a line break before its
-        last character is none."""
+        """Returns how many characters of a paragraph are its quote or prefix. Without either, it is 0. A match that has a line
+        break before its last character does not count."""
         pattern = r"(?:> ?)+" if self.its.quotes else self.its.prefix
         breaks, end = LINE_BREAKS[self.its.line_separators], LINE_END[self.its.line_separators]
         found = re.match(pattern, end.sub("", text))

@@ -9,14 +9,14 @@ pub fn since(rt: &HostRuntime, start: Instant) -> Result<u64> {
     Ok(u64::try_from(time).unwrap_or(u64::MAX))
 }
 
-/// Prints numbers and a name in one line.
+/// Prints numbers and a name on one line.
 pub fn show(rt: &HostRuntime, numbers: &[u64], name: &str) -> Result<()> {
     print_numbers(rt, numbers)?;
     println!(rt; " {name}")?;
     Ok(())
 }
 
-/// Prints numbers in one line.
+/// Prints numbers on one line.
 pub fn show_numbers(rt: &HostRuntime, numbers: &[u64]) -> Result<()> {
     print_numbers(rt, numbers)?;
     println!(rt;)?;

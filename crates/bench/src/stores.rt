@@ -44,7 +44,7 @@ impl Measured for Small {
     }
 }
 
-// The limit of a store's paragraphs.
+// The maximum number of paragraphs in a store.
 const LIMIT: usize = 1 << 40;
 
 /// Makes a store of `count` paragraphs, as a list or as a tree, by one replacement in an empty store. Then

@@ -44,7 +44,7 @@ alone classes levels matches start end e size run none =
     ∙ ap (λ o. range_with_len start (end - start) ++ rest_of classes levels size o) (sym (none ∙ ap (next_start levels) found))
     ∙ append-nil (range_with_len start (end - start))
 
--- the levels of a run, from `start` up to `end`, that is a whole sequence
+-- ---- the levels of a run, from `start` up to `end`, that is a whole sequence
 module _ (bracket : ℕ → Option Bracket) (base : ℕ) (characters : List ℕ) (classes : List BidiClass) (levels : List ℕ) (types : List BidiClass)
     (start end : ℕ) (above : start < end) (within : end ≤ length levels) (characters_size : length characters ≡ length levels) (types_size : length types ≡ length levels) where
   abbrev n : ℕ

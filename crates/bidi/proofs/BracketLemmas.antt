@@ -21,7 +21,7 @@ use Rattle.bidi.specs.Resolving.{IsClear}
 use Rattle.ucd.specs.Classes.{is_mark}
 use Rattle.bidi.specs.Weak.{is_left}
 
--- the length and the items of a range of a list
+-- ---- the length and the items of a range of a list
 module _ {T : Type 0} where
   range_size : (xs : List T) (a b : ℕ) → b ≤ length xs → length (slice_range xs a b) ≡ b - a
   range_size xs a b within = omega (arith, length-take (b - a) (drop a xs), length-drop a xs)

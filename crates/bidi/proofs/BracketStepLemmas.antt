@@ -69,7 +69,7 @@ and-true : (a b : Bool) → b ≡ true → (a && b) ≡ a
 and-true true b e = e
 and-true false b e = refl
 
--- the bracket with which N0 sets the type of a mark, carried along
+-- carrying along the bracket with which N0 sets the type of a mark finds the same bracket as the definition
 pub holder-is : (sets : ℕ → Bool) (marks : List Bool) (k : ℕ) → k < length marks
     → greatest (λ p. sets p && is_set_with marks p k) k ≡ (if get_or marks k false then holder sets marks k else None)
 holder-is sets marks zero within = sym (if-same (get_or marks 0 false) None)
@@ -93,7 +93,7 @@ holder-same f g marks (suc k) same =
     ap (λ b. if b then Some k else (if get_or marks k false then holder f marks k else None)) (same k (omega arith))
     ∙ ap (λ o. if g k then Some k else (if get_or marks k false then o else None)) (holder-same f g marks k (λ p below. same p (omega arith)))
 
--- the types for the pair that opens at k + 1, after those for the pair that opens at k
+-- the types before the pair at k + 1 are those before the pair at k, after the step for that pair
 pub resolved-more : (embedding sos : BidiClass) (marks : List Bool) (closer : ℕ → Option ℕ) (types : List BidiClass) (k : ℕ)
     → resolved_before embedding sos marks closer types (k + 1) ≡ pair_step embedding sos marks (resolved_before embedding sos marks closer types k) k (closer k)
 resolved-more embedding sos marks closer types k =
@@ -139,7 +139,7 @@ module _ (look : ℕ → Option Bracket) (embedding sos : BidiClass) (text : Lis
   closer-is : (a : ℕ) → a < length types → closer_by partners a ≡ closer_of (pairs_of look text types) a
   closer-is a below = ap (λ l. closer_by l a) found.partners_are ∙ closer_by-pairs_of look text types a below
 
-  -- the types for a pair, with the closing brackets from the list of partners
+  -- the types for a pair are the same if the closing brackets are read from the list of partners
   types-are : (a : ℕ) → a ≤ length types
       → resolved_before embedding sos (map is_mark explicit) (closer_by partners) types a ≡ types_for look embedding sos text explicit types a
   types-are a within =
@@ -153,7 +153,7 @@ module _ (look : ℕ → Option Bracket) (embedding sos : BidiClass) (text : Lis
       ap (λ ts. decision_by (is_left embedding) sos ts a (closer_by partners a)) (types-are a (omega arith))
       ∙ ap (decision_by (is_left embedding) sos (types_for look embedding sos text explicit types a) a) (closer-is a below ∙ closer)
 
-  -- why a bracket has no pair
+  -- ---- why a bracket has no pair
   past-given : (o : Option ℕ) → full ≡ o → (k : ℕ) → is_past_by openers o k ≡ is_past look text types o k
   past-given None e k = refl
   past-given (Some f) e k =
@@ -192,7 +192,7 @@ module _ (look : ℕ → Option Bracket) (embedding sos : BidiClass) (text : Lis
       let low = (partner-is look text types k j e).within in
       (p, lt-ltb (get_or partners k 0) (length partners) (omega arith))
 
-  -- the decision for the pair of the brackets at k and j
+  -- the decision for the pair of the brackets at k and j is that of the definition
   decided : (k j : ℕ) → k < length types → pairs_are k ≡ Some j
       → decision_at (min k (get_or partners k 0)) ≡ decision_by (is_left embedding) sos (types_for look embedding sos text explicit types (min k j)) (min k j) (Some (max k j))
   decided k j within e =
@@ -255,7 +255,7 @@ module _ (look : ℕ → Option Bracket) (embedding sos : BidiClass) (text : Lis
       (length-map-range_with_len f 0 (length types))
       (λ k below. get_or-map-range_with_len f 0 (length types) k k none below (omega arith) ∙ step-is k below)
 
--- the case of a step
+-- the case of a step is the one that `case_by` returns
 pub case_of_step : (partners : List ℕ) (decision : ℕ → Decision) (unpaired : ℕ → Option BracketCase) (marks : List Bool) (k : ℕ)
     → (step_by partners decision unpaired marks k).case ≡ case_by partners decision unpaired marks k
 case_of_step partners decision unpaired marks k =

@@ -280,7 +280,7 @@ opener_or-rises pairs i len order within =
       | inr past ↦ let at = opener_or-end pairs (i + 1) len (omega arith) in let below = order.below i within in omega arith
     ]
 
--- the closer of a bracket in the list
+-- the closer of a bracket in the list of opening brackets is its closer in the list of closers
 pub closer-is : (pairs : List BracketPair) (i len : ℕ) → AreInOrder pairs len → i < length pairs → slice_index (closers_by pairs len) (opener_at pairs i) ≡ closer_at pairs i
 closer-is pairs i len order within =
     closers_of-at (map as_pair pairs) len (opener_at pairs i) 0 (order.below i within)

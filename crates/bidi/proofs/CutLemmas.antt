@@ -73,7 +73,7 @@ uncut_next is_cut text last at before here k to inside = elim (cases_lt k at) [
       subst (λ i. is_cut (slice_index text i) (slice_index text (i + 1)) ≡ false) there (here (omega arith))
 ]
 
--- the same, in terms of the index of the character after the boundary
+-- there is no boundary directly before the character at m, for m from 1 up to `to` and `last`
 pub uncut_before : (is_cut : ℕ → ℕ → Bool) (text : List ℕ) (last to : ℕ) → UncutTo is_cut text last to
     → (m : ℕ) → 1 ≤ m → m ≤ to → m ≤ last → is_cut (slice_index text (m - 1)) (slice_index text m) ≡ false
 uncut_before is_cut text last to uncut m from below inside =

@@ -100,7 +100,7 @@ module _ (base : ℕ) where
             ∙ ap (λ n. greatest (λ i. test i n) k) (sym empty ∙ are.size)
       ]
 
-  -- the indices after the character at k
+  -- updating the indices for the character at k yields the indices for k + 1
   pub next_indices : (classes : List BidiClass) (k : ℕ) (indices : List ℕ) → k < length classes → AreIndices classes k indices
       → AreIndices classes (k + 1) (updated indices (depth base (open_chain classes (k + 1))) k)
   next_indices classes k indices within are =

@@ -1,4 +1,4 @@
--- N0 on a sequence with a repeated character that is no bracket, and the levels of such a sequence.
+-- N0 on a sequence with a repeated character that is not a bracket, and the levels of such a sequence.
 use Rattle.std.proofs.Common.{◌≡◌, ◌≢◌, ℕ, zero, suc, ◌+◌, ◌<◌, ◌≤◌, ◌==◌, nat_lt, Bool, true, false, ◌&&◌, ◌||◌, not, if◌then◌else◌, List, [], ◌∷◌, ◌++◌, length, take, map, fold, reverse, slice_index, slice_range, Option, Some, None, option_map, refl, sym, ap, ◌∙◌, inl, inr, arith}
 use Rattle.std.specs.List.{list_all, list_any, range_with_len}
 use Rattle.std.proofs.lemmas.Bool.{cases_eq, cases_lt, ne_eqb, lt-ltb, le-ltb, and_left}
@@ -19,7 +19,7 @@ use Rattle.bidi.proofs.DoublingLists.{all-double, any-double, begins-after, coll
 use Rattle.bidi.proofs.DoublingPairs.{apart-closer, apart-none, apart-pairs, closer-double, closer-second, pairs-double, shift_pair}
 use Rattle.bidi.proofs.DoublingRules.{length-each_by, neutral-double, weak-double}
 
--- whether an item is set with a bracket of a pair
+-- ---- whether an item is set with a bracket of a pair
 eq-collapse : (k p j : ℕ) → p ≢ k → (shift k p == j) ≡ (p == collapse k j)
 eq-collapse k p j other =
     elim (cases_eq (collapse k j) k) [
@@ -55,7 +55,7 @@ set_with-double marks direction types k p other within =
 length-set : (marks : List Bool) (direction : BidiClass) (types : List BidiClass) (p : ℕ) → length (set_with marks direction types p) ≡ length types
 length-set marks direction types p = length-map-range_with_len (λ j. if is_set_with marks p j then direction else class_at types j) 0 (length types)
 
--- the direction of a pair
+-- ---- the direction of a pair
 nearest-append : (test : BidiClass → Bool) (other : BidiClass) (xs ys : List BidiClass) → nearest test other (xs ++ ys) ≡ nearest test (nearest test other ys) xs
 nearest-append test other [] ys = refl
 nearest-append test other (x ∷ xs) ys = ap (λ rest. if test x then x else rest) (nearest-append test other xs ys)
@@ -113,7 +113,7 @@ length-pair : (marks : List Bool) (types : List BidiClass) (a b : ℕ) (directio
 length-pair marks types a b None = refl
 length-pair marks types a b (Some direction) = length-set marks direction (set_with marks direction types a) b ∙ length-set marks direction types a
 
--- the steps of N0
+-- ---- the steps of N0
 module _ (embedding sos : BidiClass) (marks : List Bool) (k : ℕ) where
   step-double : (types : List BidiClass) (a : ℕ) (o : Option ℕ) → ((b : ℕ) → o ≡ Some b → (a ≢ k) × (b ≢ k)) → k < length types
       → pair_step embedding sos (double k marks) (double k types) (shift k a) (option_map (shift k) o) ≡ double k (pair_step embedding sos marks types a o)
@@ -176,7 +176,7 @@ module _ (embedding sos : BidiClass) (marks : List Bool) (k : ℕ) where
               ∙ steps-double n (a + 1) (step types a) (omega (arith, upto, ne)) (omega (arith, past)) (omega (arith, within, length-step types a (closer a)))
         ]
 
--- N0
+-- N0 commutes with repeating a character that is not a bracket
 pub brackets-double : (look : ℕ → Option Bracket) (embedding sos : BidiClass) (characters : List ℕ) (explicit types : List BidiClass) (k : ℕ) → look (slice_index characters k) ≡ None → k < length types
     → brackets look embedding sos (double k characters) (double k explicit) (double k types) ≡ double k (brackets look embedding sos characters explicit types)
 brackets-double look embedding sos characters explicit types k none within =
@@ -192,7 +192,7 @@ brackets-double look embedding sos characters explicit types k none within =
     ∙ steps-double embedding sos marks k (closer_of pairs) (closer_of (map (shift_pair k) pairs)) (closer-double k pairs) (apart-closer k pairs apart) (apart-none k pairs apart)
     (closer-second k pairs) n 0 types (omega arith) (omega (arith, within)) within
 
--- the levels of a sequence
+-- ---- the levels of a sequence
 pub length-weak : (sos : BidiClass) (types : List BidiClass) → length (weak sos types) ≡ length types
 length-weak sos types =
     let one = w1 sos types in

@@ -14,7 +14,7 @@ use Rattle.bidi.specs.Neutral.{implicit_level, neutral}
 use Rattle.bidi.specs.Sequences.{direction, eos, first_of, sequences, sos, stayed}
 use Rattle.bidi.specs.Weak.{weak}
 
--- tests that agree
+-- ---- tests that agree
 greatest-same : (p q : ℕ → Bool) → ((i : ℕ) → p i ≡ q i) → (n : ℕ) → greatest p n ≡ greatest q n
 greatest-same p q same zero = refl
 greatest-same p q same (suc n) = ap (λ b. if b then Some n else greatest p n) (same n) ∙ ap (λ o. if q n then Some n else o) (greatest-same p q same n)
@@ -49,7 +49,7 @@ module _ (look : ℕ → Option Bracket) where
   alike-part text other alike (a ∷ places) zero = alike a
   alike-part text other alike (a ∷ places) (suc i) = alike-part text other alike places i
 
-  -- bracket pairs
+  -- ---- bracket pairs
   module _ (text other : List ℕ) (alike : AreAlike text other) (types : List BidiClass) where
     opens-alike : (i : ℕ) → is_opener look text types i ≡ is_opener look other types i
     opens-alike i = ap (λ o. is_other (class_at types i) && is_opening o) (look-alike (slice_index text i) (slice_index other i) (alike i))
@@ -100,7 +100,7 @@ module _ (look : ℕ → Option Bracket) where
         before-alike (unwrap_or (least (is_full look text types) 0 n) n)
         ∙ ap (λ o. pairs_before look other types (unwrap_or o n)) (least-same (is_full look text types) (is_full look other types) full-alike 0 n)
 
-  -- levels
+  -- ---- levels
   sequence-alike : (text other : List ℕ) → AreAlike text other → (level : ℕ) (sos eos : BidiClass) (types : List BidiClass)
       → sequence_levels look level sos eos text types ≡ sequence_levels look level sos eos other types
   sequence-alike text other alike level sos eos types =

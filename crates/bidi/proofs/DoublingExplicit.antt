@@ -13,7 +13,7 @@ use Rattle.bidi.specs.Levels.{put_back}
 use Rattle.bidi.proofs.DoublingIsolates.{IsInner}
 use Rattle.bidi.proofs.DoublingLists.{Ends, collapse, collapse-high, collapse-low, collapse-next, ends-after, get_or-double, take-double-high, take-double-low}
 
--- classes that may be repeated
+-- ---- classes that may be repeated
 pub repeat-inner : (class : BidiClass) → can_be_doubled class ≡ true → IsInner class
 repeat-inner LRI is = absurd (cc)
 repeat-inner RLI is = absurd (cc)
@@ -54,7 +54,7 @@ directed-here classes k within is =
     get_or-map-range_with_len (λ j. directed_at classes j (class_at classes j)) 0 (length classes) k k ON within (zero-add k)
     ∙ repeat-directed classes k (class_at classes k) is
 
--- the open chain
+-- ---- the open chain
 chain-ignores : (m : ℕ) (ys chain : List BidiClass) → ((chain : List BidiClass) → open_after chain (class_at ys m) ≡ chain) → fold open_after chain (double m ys) ≡ fold open_after chain ys
 chain-ignores m [] chain same = refl
 chain-ignores zero (y ∷ ys) chain same = ap (λ c. fold open_after c ys) (same (open_after chain y))
@@ -109,7 +109,7 @@ module _ (classes : List BidiClass) (k : ℕ) (same : (chain : List BidiClass) �
       ap (λ c. if is_separator c then c else unwrap_or (inside_at base (double k classes) j).override c) (get_or-double k classes j ON)
       ∙ ap (λ state. if is_separator (class_at classes (collapse k j)) then class_at classes (collapse k j) else unwrap_or state.override (class_at classes (collapse k j))) (inside-double base j)
 
--- the type inside an override may be repeated
+-- a type that may be repeated still may be after an override has been applied
 override-repeats : (opener class : BidiClass) → can_be_doubled class ≡ true → can_be_doubled (unwrap_or (override_of opener) class) ≡ true
 override-repeats RLO class is = refl
 override-repeats LRO class is = refl
@@ -134,7 +134,7 @@ type-repeats base classes k is =
     ap can_be_doubled (cond-false (is_separator class) class other (repeat-continues class is))
     ∙ inside-repeats base (open_chain classes (if is_pdi class then k + 1 else k)) class is
 
--- the numbers of a range that pass a test, where the tests of the two equal items agree
+-- ---- the numbers of a range that pass a test, where the tests of the two equal items agree
 module _ {T : Type 0} (k : ℕ) (p q : ℕ → Bool) (same : (j : ℕ) → q j ≡ p (collapse k j)) (here : p k ≡ true) (f g : ℕ → T) (agrees : (j : ℕ) → g j ≡ f (collapse k j)) where
   past : (a : ℕ) → k < a → collapse k (suc a) ≡ a
   past a above = omega (arith, collapse-high k (suc a) (omega (arith, above)))
@@ -189,7 +189,7 @@ module _ {T : Type 0} (k : ℕ) (p q : ℕ → Bool) (same : (j : ℕ) → q j �
             ∙ ap (λ xs. double (length (filter p (range_with_len a (suc m)))) (map f xs)) (sym (cond-false (p a) (a ∷ old) old gone))
       ]
 
--- the item that is made from k, and its index
+-- ---- the item that is made from k, and its index
 module _ {T : Type 0} (k : ℕ) (p : ℕ → Bool) (here : p k ≡ true) (f : ℕ → T) (d : T) where
   pub stay-at : (n a m : ℕ) → a + m ≡ k → m < n → (length (filter p (range_with_len a m)) < length (map f (filter p (range_with_len a n))))
       × (get_or (map f (filter p (range_with_len a n))) (length (filter p (range_with_len a m))) d ≡ f k)
@@ -234,7 +234,7 @@ kept-range p (suc m) a (class ∷ classes) within same =
       | inr kept ↦ ap length (cond-true (p a) (a ∷ rest) rest (test ∙ ap not kept)) ∙ ap suc later ∙ sym (cond-false (is_removed class) (kept_to m classes) (suc (kept_to m classes)) kept)
     ]
 
--- inserting the levels of removed characters
+-- ---- inserting the levels of removed characters
 put-removed : (before : ℕ) (class : BidiClass) (classes : List BidiClass) (levels : List ℕ) → is_removed class ≡ true → put_back before (class ∷ classes) levels ≡ before ∷ put_back before classes levels
 put-removed before class classes [] gone = refl
 put-removed before class classes (level ∷ levels) gone =

@@ -1,4 +1,5 @@
--- Isolates and base levels of a paragraph with a repeated character that is no isolate initiator or PDI.
+-- Isolates and base levels of a paragraph with a repeated character that is neither an isolate initiator nor a
+-- PDI.
 use Rattle.std.proofs.Common.{◌≡◌, ◌≢◌, ℕ, zero, suc, ◌+◌, ◌-◌, ◌<◌, ◌==◌, nat_lt, Bool, true, false, cond, ◌&&◌, not, if◌then◌else◌, List, [], ◌∷◌, length, map, slice_range, count_by, Option, Some, None, option_map, unwrap_or, refl, sym, ap, ◌∙◌, inl, inr, arith, zero-add}
 use Rattle.std.specs.List.{list_all, range_with_len}
 use Rattle.std.proofs.lemmas.Bool.{cases_Bool, cases_eq, cases_lt, both_ways, and_left, not_from_false}
@@ -22,7 +23,7 @@ count-ignores p zero (x ∷ xs) not_counted = sum_by-cons (λ t. cond (p t) 1 0)
 count-ignores p (suc k) (x ∷ xs) not_counted =
     sum_by-cons (λ t. cond (p t) 1 0) x (double k xs) ∙ ap (λ n. cond (p x) 1 0 + n) (count-ignores p k xs not_counted) ∙ sym (sum_by-cons (λ t. cond (p t) 1 0) x xs)
 
--- tests of all indices before one
+-- ---- tests of all indices before one
 and-true : (b : Bool) → (b && true) ≡ b
 and-true true = refl
 and-true false = refl
@@ -52,7 +53,7 @@ all-range-double k p q same here (suc j) =
           ∙ ap (λ i. list_all p (range_with_len 0 i)) (sym (collapse-more k j ne))
     ]
 
--- a class that is no isolate initiator and no PDI
+-- whether a class is neither an isolate initiator nor PDI
 pub record IsInner (class : BidiClass) : Type 0 where
   pub opens : is_initiator class ≡ false
   pub shuts : is_pdi class ≡ false
@@ -94,7 +95,7 @@ module _ (classes : List BidiClass) (k : ℕ) (inner : IsInner (class_at classes
             ∙ least-double k (is_balanced classes i) test (λ j. balanced-double i j other) (i + 1) (n - (i + 1)) (omega (arith, upto, other)) (omega (arith, within, upto, other))
       ]
 
-  -- whether a character is inside an isolate
+  -- ---- whether a character is inside an isolate
   span-double : (j i : ℕ) → is_in_span (double k classes) j i ≡ is_in_span classes (collapse k j) (collapse k i)
   span-double j i =
       let m = collapse k i in
@@ -129,7 +130,7 @@ module _ (classes : List BidiClass) (k : ℕ) (inner : IsInner (class_at classes
       ∙ map-shift k (λ i. strong_level (class_at classes i)) (λ i. strong_level (class_at (double k classes) i))
       (λ i. ap strong_level (get_or-double k classes (shift k i) ON) ∙ ap (λ n. strong_level (class_at classes n)) (collapse-shift k i)) (least old 0 (length classes))
 
--- the base level
+-- repeating a character that is not an isolate initiator or a PDI does not change the base level
 pub strong_level-double : (classes : List BidiClass) (k : ℕ) → IsInner (class_at classes k) → first_strong_level (double k classes) ≡ first_strong_level classes
 strong_level-double classes k inner =
     elim (cases_lt k (length classes)) [
@@ -143,7 +144,7 @@ base-double classes k Ltr inner = refl
 base-double classes k WeakRtl inner = ap (λ o. unwrap_or o 1) (strong_level-double classes k inner)
 base-double classes k WeakLtr inner = ap (λ o. unwrap_or o 0) (strong_level-double classes k inner)
 
--- the initiators as which FSIs act
+-- ---- the initiators as which FSIs act
 directed_at-same : (new old : List BidiClass) (i j : ℕ) (class : BidiClass) → (class ≡ FSI → first_strong_level (span_of new i) ≡ first_strong_level (span_of old j))
     → directed_at new i class ≡ directed_at old j class
 directed_at-same new old i j FSI same = ap (λ o. if unwrap_or o 0 == 1 then RLI else LRI) (same refl)

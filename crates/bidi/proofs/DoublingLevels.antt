@@ -58,7 +58,7 @@ module _ {T : Type 0} where
   stutter-long zero marks (x ∷ xs) within = omega arith
   stutter-long (suc n) marks (x ∷ xs) within = let more = stutter-long n marks xs (omega (arith, within)) in omega (arith, more)
 
--- the levels of a sequence with repeated characters
+-- ---- the levels of a sequence with repeated characters
 module _ (look : ℕ → Option Bracket) (level : ℕ) (sos eos : BidiClass) (characters : List ℕ) (types : List BidiClass) where
   -- the characters whose marks are set may be repeated
   AreCalm : ℕ → List Bool → Type 0
@@ -92,7 +92,7 @@ module _ (look : ℕ → Option Bracket) (level : ℕ) (sos eos : BidiClass) (ch
       ∙ ap (double n) (stutter-levels marks (suc n) (calm-next n true marks calm))
       ∙ sym (stutter-more n marks (levels characters types))
 
--- the items at the new indices
+-- ---- the items at the new indices
 if-map : {T : Type 0} (g : ℕ → T) (b : Bool) (i : ℕ) (xs : List ℕ) → map g (if b then i ∷ xs else xs) ≡ (if b then g i ∷ map g xs else map g xs)
 if-map g true i xs = refl
 if-map g false i xs = refl
@@ -115,7 +115,7 @@ marked-at k [] i set = absurd (cc)
 marked-at k (a ∷ places) zero set = (omega arith, sym (eqb-true k a set))
 marked-at k (a ∷ places) (suc i) set = let rest = marked-at k places i set in (omega (arith, rest.0), rest.1)
 
--- writing the levels of a sequence
+-- ---- writing the levels of a sequence
 set-other : (k a v : ℕ) (xs : List ℕ) → k ≢ a → set (double k xs) (shift k a) v ≡ double k (set xs a v)
 set-other k a v [] ne = refl
 set-other zero zero v (x ∷ xs) ne = absurd (ne refl)
@@ -148,7 +148,7 @@ put-double k (a ∷ places) (v ∷ values) done =
           ∙ put-double k places values (set done a v)
     ]
 
--- the levels of all sequences
+-- ---- the levels of all sequences
 module _ (look : ℕ → Option Bracket) (base : ℕ) (characters : List ℕ) (classes : List BidiClass) (levels : List ℕ) (types : List BidiClass) (k : ℕ)
     (inner : IsInner (class_at classes k)) (none : look (slice_index characters k) ≡ None) (repeats : can_be_doubled (class_at types k) ≡ true)
     (in_classes : k < length classes) (in_levels : k < length levels) where
@@ -201,7 +201,7 @@ module _ (look : ℕ → Option Bracket) (base : ℕ) (characters : List ℕ) (c
       ap (fold (λ done s. put done s (new_levels s)) (double k levels)) (sequences-double classes k inner in_classes levels in_levels)
       ∙ put-all (sequences classes levels) levels
 
--- the levels of a paragraph
+-- repeating a character repeats its level and changes no other level of the paragraph
 pub levels_by-double : (look : ℕ → Option Bracket) (text : List ℕ) (classes : List BidiClass) (base k : ℕ) → k < length classes → can_be_doubled (class_at classes k) ≡ true → look (slice_index text k) ≡ None
     → levels_by look (double k text) (double k classes) base ≡ double k (levels_by look text classes base)
 levels_by-double look text classes base k within is none =

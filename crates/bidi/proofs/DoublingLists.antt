@@ -59,14 +59,14 @@ shift-collapse zero (suc zero) other = absurd (other refl)
 shift-collapse zero (suc (suc j)) other = refl
 shift-collapse (suc k) (suc j) other = ap suc (shift-collapse k j (λ e. other (ap suc e)))
 
--- the old indices of consecutive indices
+-- unless the item at j is the first of the two equal items, the old index of j + 1 is one more than that of j
 pub collapse-more : (k j : ℕ) → j ≢ k → collapse k (suc j) ≡ suc (collapse k j)
 collapse-more zero zero other = absurd (other refl)
 collapse-more (suc k) zero other = refl
 collapse-more zero (suc j) other = refl
 collapse-more (suc k) (suc j) other = ap suc (collapse-more k j (λ e. other (ap suc e)))
 
--- the order of indices
+-- ---- the order of indices
 pub shift-eq : (k i j : ℕ) → (shift k i == shift k j) ≡ (i == j)
 shift-eq k i j =
     elim (cases_eq i j) [
@@ -139,7 +139,7 @@ all-both : (a b : Bool) → (a && (a && b)) ≡ (a && b)
 all-both true b = refl
 all-both false b = refl
 
--- an old index, compared with the first new index of another one
+-- j is before the first new index of m if and only if the old index of j is before m
 pub before-shift : (k j m : ℕ) → nat_lt j (shift k m) ≡ nat_lt (collapse k j) m
 before-shift k j m =
     elim (cases_lt k m) [
@@ -163,7 +163,7 @@ after-shift k p j other =
       | inr more ↦ le-ltb (shift k p) j (le-collapse k p j other more) ∙ sym (le-ltb p (collapse k j) more)
     ]
 
--- the list with a repeated item
+-- ---- the list with a repeated item
 module _ {T : Type 0} where
   pub length-double : (k : ℕ) (xs : List T) → k < length xs → length (double k xs) ≡ suc (length xs)
   length-double k [] within = absurd (omega (arith, within))
@@ -293,7 +293,7 @@ slice-double d read k xs ignores start old_start end old begins ends =
           ]
     ]
 
--- a list that is made from the indices
+-- repeating an item of a list that is made from its indices yields the list that is made from the new indices
 pub map-range-double : {T : Type 0} (f g : ℕ → T) (k n : ℕ) → ((j : ℕ) → g j ≡ f (collapse k j)) → k < n
     → map g (range_with_len 0 (suc n)) ≡ double k (map f (range_with_len 0 n))
 map-range-double f g k n same within =
@@ -309,7 +309,7 @@ map-range-double f g k n same within =
     get_or-map-range_with_len g 0 (suc n) j j d inside (zero-add j) ∙ same j
     ∙ sym (get_or-double k old j d ∙ get_or-map-range_with_len f 0 n (collapse k j) (collapse k j) d old_inside (zero-add (collapse k j))))
 
--- the least number that passes a test, where the tests of the two equal items agree
+-- ---- the least number that passes a test, where the tests of the two equal items agree
 module _ (k : ℕ) (p q : ℕ → Bool) (same : (j : ℕ) → q j ≡ p (collapse k j)) where
   at-past : (low : ℕ) → k < low → q (suc low) ≡ p low
   at-past low past = let there : collapse k (suc low) ≡ low = omega (arith, collapse-high k (suc low) (omega (arith, past))) in same (suc low) ∙ ap p there
@@ -345,12 +345,12 @@ module _ (k : ℕ) (p q : ℕ → Bool) (same : (j : ℕ) → q j ≡ p (collaps
             ∙ ap (option_map (shift k)) (sym (cond-false (p low) (Some low) (least p (suc low) count) failed))
       ]
 
--- the last number of a range
+-- the last of the n + 1 numbers from a on is a + n
 pub range-last : (a n : ℕ) → range_with_len a (suc n) ≡ range_with_len a n ++ (a + n) ∷ []
 range-last a zero = let e : a ≡ a + 0 = omega arith in ap (λ m. m ∷ []) e
 range-last a (suc n) = let e : a + 1 + n ≡ a + suc n = omega arith in ap (λ xs. a ∷ xs) (range-last (a + 1) n ∙ ap (λ m. range_with_len (a + 1) n ++ m ∷ []) e)
 
--- the end of the new list
+-- the end of the new list is the first new index of the end of the old list
 pub unwrap-shift : (k n : ℕ) (o : Option ℕ) → k < n → unwrap_or (option_map (shift k) o) (suc n) ≡ shift k (unwrap_or o n)
 unwrap-shift k n None within = sym (shift-high k n within)
 unwrap-shift k n (Some m) within = refl

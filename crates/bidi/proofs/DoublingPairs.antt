@@ -1,4 +1,4 @@
--- Bracket pairs in a sequence with a repeated character that is no bracket.
+-- Bracket pairs in a sequence with a repeated character that is not a bracket.
 use Rattle.std.proofs.Common.{◌≡◌, ◌≢◌, ℕ, zero, suc, ◌+◌, ◌<◌, ◌==◌, nat_lt, nat_le, Bool, true, false, cond, ◌&&◌, ◌||◌, not, if◌then◌else◌, List, [], ◌∷◌, ◌++◌, length, map, slice_index, count_by, Option, Some, None, option_map, unwrap_or, refl, sym, ap, subst, ◌∙◌, inl, inr, arith, append-nil, zero-add}
 use Rattle.std.specs.List.{list_any, range_with_len}
 use Rattle.std.proofs.lemmas.Bool.{cond-true, cond-false, cases_Bool, cases_eq, eq-eqb, ne_eqb, and_left, and_parts, and_right, both_ways}
@@ -53,7 +53,7 @@ closer-double k (pair ∷ pairs) a =
     ∙ ap (λ rest. if pair.opener == a then Some (shift k pair.closer) else rest) (closer-double k pairs a)
     ∙ map-if k (pair.opener == a) pair.closer (closer_of pairs a)
 
--- the second of the two equal items is the index of no old item
+-- the second of the two equal items is not the first new index of any old item
 pub shift-other : (k i : ℕ) → shift k i ≢ suc k
 shift-other k i e = let back : i ≡ k = sym (collapse-shift k i) ∙ ap (collapse k) e ∙ collapse-next k in omega (arith, e, back, shift-low k i (omega (arith, back)))
 
@@ -68,7 +68,7 @@ count-last p n =
     ap (count_by p) (range-last 0 n) ∙ sum_by_push (λ i. cond (p i) 1 0) (range_with_len 0 n) (0 + n)
     ∙ ap (λ i. count_by p (range_with_len 0 n) + cond (p i) 1 0) (zero-add n)
 
--- tests that agree, and that the repeated item fails
+-- ---- tests that agree, and that the repeated item fails
 module _ (k : ℕ) (p q : ℕ → Bool) (same : (i : ℕ) → q i ≡ p (collapse k i)) (fails : p k ≡ false) where
   fails-here : (j : ℕ) → j ≡ k → q j ≡ false
   fails-here j e = same j ∙ ap (λ i. p (collapse k i)) e ∙ ap p (collapse-same k) ∙ fails
@@ -205,7 +205,7 @@ module _ (look : ℕ → Option Bracket) (characters : List ℕ) (types : List B
   paired-double None j m there = refl
   paired-double (Some i) j m there = ap (λ c. record { opener = shift k i; closer = c } ∷ []) (sym there)
 
-  -- the pairs have the same brackets
+  -- the pairs of the new list are those of the old one, with new indices
   pub before-double : (j : ℕ) → new_before j ≡ map (shift_pair k) (before (collapse k j))
   before-double zero = refl
   before-double (suc j) =

@@ -51,7 +51,7 @@ map-calm f calm keeps (suc k) (type ∷ types) is = map-calm f calm keeps k type
 abbrev any : BidiClass → Bool
 any type = true
 
--- W1
+-- ---- W1
 w1-front : (sos : BidiClass) (k : ℕ) (before : List BidiClass) (type : BidiClass) (after : List BidiClass) → w1_at sos (double k before) type after ≡ w1_at sos before type after
 w1-front sos k before NSM after = ap mark_after (nearest-double (λ type. not (is_mark type)) sos k before)
 w1-front sos k before _ after = refl
@@ -76,7 +76,7 @@ w1-calm : (sos : BidiClass) (before : List BidiClass) (type : BidiClass) (after 
 w1-calm sos before NSM after is = absurd (cc)
 w1-calm sos before _ after is = is
 
--- W2
+-- ---- W2
 w2-front : (sos : BidiClass) (k : ℕ) (before : List BidiClass) (type : BidiClass) (after : List BidiClass) → w2_at sos (double k before) type after ≡ w2_at sos before type after
 w2-front sos k before EN after = ap (λ strong. if is_arabic strong then AN else EN) (nearest-double is_strong sos k before)
 w2-front sos k before _ after = refl
@@ -105,12 +105,12 @@ w2-calm : (sos : BidiClass) (before : List BidiClass) (type : BidiClass) (after 
 w2-calm sos before EN after is = either-repeats (is_arabic (nearest is_strong sos before))
 w2-calm sos before _ after is = is
 
--- W3
+-- ---- W3
 w3-calm : (type : BidiClass) → can_be_doubled type ≡ true → can_be_doubled (w3_type type) ≡ true
 w3-calm AL is = refl
 w3-calm _ is = is
 
--- W4
+-- ---- W4
 w4-head : (other : BidiClass) (before more : List BidiClass) (type : BidiClass) (after : List BidiClass) → w4_at (other ∷ before) type after ≡ w4_at (other ∷ more) type after
 w4-head EN before more ES [] = refl
 w4-head EN before more ES (EN ∷ after) = refl
@@ -163,7 +163,7 @@ w4-stable = record {
   second = λ before type after is. w4-calm (type ∷ before) type after is ∙ sym (w4-calm before type after is);
 }
 
--- W5
+-- ---- W5
 w5-front : (k : ℕ) (before : List BidiClass) (type : BidiClass) (after : List BidiClass) → w5_at (double k before) type after ≡ w5_at before type after
 w5-front k before ET after =
     ap (λ type. if is_number type || is_number (nearest (λ type. not (is_terminator type)) ON after) then EN else ET) (nearest-double (λ type. not (is_terminator type)) ON k before)
@@ -190,7 +190,7 @@ w5-stable = record {
   second = λ before type after is. w5-second before type after;
 }
 
--- W7
+-- ---- W7
 w7-front : (sos : BidiClass) (k : ℕ) (before : List BidiClass) (type : BidiClass) (after : List BidiClass) → w7_at sos (double k before) type after ≡ w7_at sos before type after
 w7-front sos k before EN after = ap (λ strong. if is_left strong then L else EN) (nearest-double is_strong sos k before)
 w7-front sos k before _ after = refl
@@ -211,7 +211,7 @@ w7-stable sos = record {
   second = λ before type after is. w7-second sos before type after;
 }
 
--- the weak rules
+-- the weak rules commute with repeating a type that may be repeated
 pub weak-double : (sos : BidiClass) (k : ℕ) (types : List BidiClass) → can_be_doubled (class_at types k) ≡ true → weak sos (double k types) ≡ double k (weak sos types)
 weak-double sos k types is =
     let one = w1 sos types in
@@ -229,7 +229,7 @@ weak-double sos k types is =
     ∙ ap (w7 sos) (map-double w6_type k (w5 four))
     ∙ each_by-double (w7_at sos) any (w7-stable sos) k [] (w6 (w5 four)) refl
 
--- N1 and N2
+-- ---- N1 and N2
 abbrev ends : BidiClass → Bool
 ends type = not (is_neutral type)
 

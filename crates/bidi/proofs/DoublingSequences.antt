@@ -33,7 +33,7 @@ widen-append k (x ∷ xs) ys =
     ap (λ rest. shift k x ∷ (if k == x then suc k ∷ rest else rest)) (widen-append k xs ys)
     ∙ ap (λ rest. shift k x ∷ rest) (append-if (k == x) (suc k) (widen k xs) (widen k ys))
 
--- ranges
+-- ---- ranges
 range-past : (k n a : ℕ) → k < a → range_with_len (suc a) n ≡ widen k (range_with_len a n)
 range-past k zero a above = refl
 range-past k (suc n) a above =
@@ -60,7 +60,7 @@ range-double k (suc n) a upto past =
           ∙ sym (widen-other k a (range_with_len (a + 1) n) ne)
     ]
 
--- parts of a list of indices
+-- ---- parts of a list of indices
 onto-widen-same : (k a : ℕ) (parts : List (List ℕ)) → k ≡ a → onto_first (shift k a) (onto_first (suc k) (map (widen k) parts)) ≡ map (widen k) (onto_first a parts)
 onto-widen-same k a [] e = ap (λ xs. xs ∷ []) (sym (widen-same k a [] e))
 onto-widen-same k a (part ∷ parts) e = ap (λ xs. xs ∷ map (widen k) parts) (sym (widen-same k a part e))
@@ -115,7 +115,7 @@ module _ (k : ℕ) (cut new_cut : ℕ → ℕ → Bool) (same : (i j : ℕ) → 
             ]
       ]
 
--- level runs
+-- the level runs of the new list are those of the old one, with new indices
 pub runs-double : (levels : List ℕ) (k : ℕ) → k < length levels → runs (double k levels) ≡ map (widen k) (runs levels)
 runs-double levels k within =
     let same : (i j : ℕ) → changes (double k levels) i j ≡ changes levels (collapse k i) (collapse k j) =
@@ -125,7 +125,7 @@ runs-double levels k within =
     ∙ ap (paragraphs (changes (double k levels))) (range-double k (length levels) 0 (omega arith) (omega (arith, within)))
     ∙ parts-double k (changes levels) (changes (double k levels)) same whole (range_with_len 0 (length levels))
 
--- the first and the last index of a run
+-- the first index of a run is the first new index of its old first index
 pub first-double : (k : ℕ) (run : List ℕ) → first_of (widen k run) ≡ shift k (first_of run)
 first-double k [] = refl
 first-double k (a ∷ run) = refl
@@ -181,7 +181,7 @@ none-shift : (k : ℕ) (o : Option ℕ) → is_none (option_map (shift k) o) ≡
 none-shift k None = refl
 none-shift k (Some m) = refl
 
--- sequences
+-- ---- sequences
 module _ (classes : List BidiClass) (k : ℕ) (inner : IsInner (class_at classes k)) (within : k < length classes) where
   other-opens : (m : ℕ) → is_initiator (class_at classes m) ≡ true → m ≢ k
   other-opens m opens e = both_ways (is_initiator (class_at classes k)) inner.opens (ap (λ n. is_initiator (class_at classes n)) (sym e) ∙ opens)
@@ -246,7 +246,7 @@ module _ (classes : List BidiClass) (k : ℕ) (inner : IsInner (class_at classes
   pub sequences-double : (levels : List ℕ) → k < length levels → sequences (double k classes) (double k levels) ≡ map (widen k) (sequences classes levels)
   sequences-double levels inside = ap (sequences_from (double k classes) []) (runs-double levels k inside) ∙ from-double [] (runs levels)
 
-  -- the ends of a sequence
+  -- ---- the ends of a sequence
   after-double : (base : ℕ) (levels : List ℕ) (j m : ℕ) → k < length levels → IsLast k j m → level_after base (double k classes) (double k levels) j ≡ level_after base classes levels m
   after-double base levels j m inside last =
       let size : length (double k levels) ≡ shift k (length levels) = length-double k levels inside ∙ sym (shift-high k (length levels) inside) in

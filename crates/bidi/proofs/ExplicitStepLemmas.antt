@@ -46,7 +46,7 @@ module _ {classes : List BidiClass} {base k : ℕ} {openers : Openers} {indices 
     holds = holds;
   }
 
-  -- the indices that apply to the character at k, and those before the next character
+  -- updating the indices yields those that apply to the character at k, and those before the next character
   pub reached_indices : (reached : Openers) (number : ℕ) → Holds base reached (chain_at classes k) → IsDepth reached number
       → AreIndices base classes (if is_pdi (class_at classes k) then k + 1 else k) (updated indices number k)
   reached_indices reached number holds is_depth =

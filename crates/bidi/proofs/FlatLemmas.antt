@@ -111,7 +111,7 @@ pub length-carry : (rule : BidiClass → BidiClass → List BidiClass → BidiCl
 length-carry rule test before [] = refl
 length-carry rule test before (type ∷ types) = ap suc (length-carry rule test (if test type then type else before) types)
 
--- the type that is carried along passes the test, or is the one before
+-- if the type before and the next type pass a test, so does the type that is carried along
 kept-next : (test passes : BidiClass → Bool) (before type : BidiClass) → passes before ≡ true → passes type ≡ true → passes (if test type then type else before) ≡ true
 kept-next test passes before type k p = elim (test type) as (λ b. passes (if b then type else before) ≡ true) [ true ↦ p | false ↦ k ]
 

@@ -60,7 +60,7 @@ module _ {X : Type 0} (items : List ℕ) (value : ℕ → X) (old : List X) wher
       ];
     }
 
-    -- or nothing is written, if the list has no such index
+    -- if the list does not have the index, nothing is written
     pub same_filled : (j : ℕ) (new : List X) → j ≡ k + 1 → IsFilled items value old j new → length new ≤ get_or items k 0 → IsFilled items value old k new
     same_filled j new next filled past = record {
       size = filled.size;
@@ -82,7 +82,8 @@ indices_filled items len new filled =
 pub none_resolved : (kept : List ℕ) (len : ℕ) → replicate len None ≡ map (resolved_in kept []) (range_with_len 0 len)
 none_resolved kept len = fill_by_all (resolved_in kept []) (replicate len None) len None (length-replicate len None) (λ q within. get_or-replicate len q None None within)
 
--- the reasons in one more sequence, written over those in the later sequences
+-- writing the reasons in one more sequence over those in the later sequences yields the reasons in all of
+-- them
 pub reasons_filled : (kept : List ℕ) (sequence : Sequence) (later : List Sequence) (old new : List (Option SequenceReason))
     → old ≡ map (resolved_in kept later) (range_with_len 0 (length kept)) → IsFilled sequence.places (reason_in kept sequence) old 0 new
     → new ≡ map (resolved_in kept (sequence ∷ later)) (range_with_len 0 (length kept))
@@ -146,7 +147,7 @@ levels_listed classes acting base sequences levels n size =
     map-map (λ (r : LevelReason). r.level) (level_reason classes acting base sequences levels) (range_with_len 0 n)
     ∙ sym (fill_by_all (λ k. get_or levels k 0) levels n 0 size (λ k within. refl))
 
--- a text without characters
+-- a text without characters has no reasons
 pub no_reasons : (tables : Tables) (text : List ℕ) (base : Base) → length text ≡ 0 → level_reasons_of tables text base ≡ []
 no_reasons tables [] base none = refl
 no_reasons tables (c ∷ text) base none = absurd (omega (arith, none))

@@ -109,7 +109,7 @@ module _ (level : ℕ) (sos eos : BidiClass) where
         ∙ ap (λ xs. take start levels ++ levels_after level eos (at - start) before xs) (sym (drop_all at types past))
         ∙ so_far.whole ∙ levels_after-is types
 
--- the level of a run of neutrals: raised if the types on both sides have the direction opposite to the embedding
+-- a run of neutrals is raised if the types on both sides have the direction opposite to the embedding
 -- direction
 row-by : (level parity : ℕ) (before after : Bool) → parity < 2
     → (if parity == 0 then level + rise_even (if agree before after then side before else (if parity == 1 then R else L))
@@ -139,7 +139,7 @@ front-row level n true true front taken low same = same refl
 front-row level n true false front taken low same = low refl
 front-row level n false next front taken low same = same refl
 
--- what the pass computes for a neutral, and for another type
+-- ---- what the pass computes for a neutral, and for another type
 next-neutral : (level : ℕ) (opposite neutral is : Bool) → neutral ≡ true → (opposite && neutral) || (if neutral then false else is) ≡ opposite
 next-neutral level true true is e = refl
 next-neutral level false true is e = refl
@@ -377,7 +377,7 @@ step-keeps (suc (suc n)) next low under e = absurd (omega (arith, low))
 pub step-next : (level rise : ℕ) (type : BidiClass) → rise ≤ 1 → ((rise + turn level type) / 2 == 1) ≡ (((rise == 1) && is_neutral type) || opposes level type)
 step-next level rise type low = step-is rise (is_neutral type) (is_opposite level type) low
 
--- the level that the pass writes
+-- ---- the level that the pass writes
 step-value : (level rise implicit : ℕ) (neutral is : Bool) → rise ≤ 1 → level ≤ implicit → (neutral ≡ true → implicit ≡ level)
     → level + (rise + (if neutral then 1 else (if is then 2 else 0))) / 2 + (if neutral then 1 else ((implicit + 1) - (level + (if is then 1 else 0))))
     ≡ implicit + (if (rise == 1) && neutral then 1 else 0) + 1

@@ -17,7 +17,7 @@ turn-entries = refl
 above-entries : ABOVE ≡ map (λ i. above (i / 32) (bidi_class_at (i % 32))) (range_with_len 0 64)
 above-entries = refl
 
--- the level of a type above an even level or an odd level
+-- how far a type is raised above the neutrals next to it does not depend on the embedding level
 above-by : (level : ℕ) (even neutral : Bool) (rise odd_rise beside : ℕ)
     → (if neutral then 1 else (((if even then level + rise else level + odd_rise) + 1) - (level + beside)))
     ≡ (if neutral then 1 else (((if even then rise else odd_rise) + 1) - beside))

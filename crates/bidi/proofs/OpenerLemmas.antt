@@ -55,7 +55,7 @@ module _ (base : ℕ) where
         | inr v ↦ absurd (both_ways ((inside base (opener ∷ outer)).is_void) none (ap (λ (i : Inside). i.is_void) v.is))
       ]
 
-  -- their state is that of the whole chain
+  -- the openers that do not overflow have the level and override of the whole chain
   live-inside : (chain : List BidiClass) → ((inside base (live chain)).level ≡ (inside base chain).level) × ((inside base (live chain)).override ≡ (inside base chain).override)
   live-inside [] = (refl, refl)
   live-inside (opener ∷ outer) =

@@ -66,7 +66,7 @@ partner-past pairs i j x ne other =
     ∙ ap (first_some (partner_in pairs x)) (cond-false (i == x) (Some j) (if j == x then Some i else None) (ne_eqb i x ne) ∙ cond-false (j == x) (Some i) None (ne_eqb j x other))
     ∙ first_some-none (partner_in pairs x)
 
--- the list of partners
+-- the list of partners has an item for each character: its partner, or the length if it has none
 pub length-partners_of : (pairs : List Pair) (len : ℕ) → length (partners_of pairs len) ≡ len
 length-partners_of pairs len = length-map-range_with_len (λ k. unwrap_or (partner_in pairs k) len) 0 len
 
@@ -199,7 +199,7 @@ module _ (look : ℕ → Option Bracket) (text : List ℕ) (types : List BidiCla
             rw (pairs-some look text types k w.0 w.1 w.2) (ArePartnered-with (before look text types k) k w.0 now parts.1 parts.0 w.1)
       ]
 
-  -- the closing bracket of a pair, found in the list of partners
+  -- the closing bracket that is read from the list of partners is that of the pair
   closer_by-some : (pairs : List Pair) (len k : ℕ) → ArePartnered pairs k → k ≤ len → (a : ℕ) → a < len
       → closer_by (partners_of pairs len) a ≡ closer_of pairs a
   closer_by-some pairs len k now within a below =

@@ -15,7 +15,7 @@ concat-onto_first a [] = refl
 concat-onto_first a (part ∷ parts) = refl
 
 module _ (is_cut : ℕ → ℕ → Bool) where
-  -- how prepending a character to a text changes its paragraphs, with and without a boundary after the character
+  -- ---- prepending a character to a text, with and without a boundary after the character
   paragraphs-cut : (a b : ℕ) (text : List ℕ) → is_cut a b ≡ true → paragraphs is_cut (a ∷ b ∷ text) ≡ (a ∷ []) ∷ paragraphs is_cut (b ∷ text)
   paragraphs-cut a b text = cond-true (is_cut a b) ((a ∷ []) ∷ paragraphs is_cut (b ∷ text)) (onto_first a (paragraphs is_cut (b ∷ text)))
 

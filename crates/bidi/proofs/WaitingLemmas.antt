@@ -228,7 +228,7 @@ types-end sos old current before strong row start at so_far past =
     ∙ ap (λ xs. take start current ++ types_after row (at - start) (w3_type strong) (read_types before strong xs)) (sym (drop_all at old (omega (arith, so_far.sizes))))
     ∙ so_far.whole ∙ weak-is sos old
 
--- a type that W1, W2 and W4 to W7 leave unchanged
+-- ---- a type that W1, W2 and W4 to W7 leave unchanged
 simple-mark : (class : BidiClass) → is_simple class ≡ true → is_mark class ≡ false
 simple-mark NSM e = absurd (cc)
 simple-mark _ e = refl

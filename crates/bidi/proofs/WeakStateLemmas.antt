@@ -15,7 +15,7 @@ use Rattle.bidi.specs.WeakState.{AreRead}
 use Rattle.bidi.specs.WeakTable.{is_simple, pending, run_at, strong_after, strong_at}
 use Rattle.bidi.proofs.WaitingLemmas.{types-settle, types-simple}
 
--- the row of a strong type
+-- after a strong type, the state holds this type
 pub strong-row : (strong class : BidiClass) → is_strong class ≡ true → strong_at (bidi_tag class * 32 / 32) ≡ strong_after strong class
 strong-row strong L e = refl
 strong-row strong R e = refl
@@ -53,7 +53,7 @@ module _ (sos : BidiClass) (old current : List BidiClass) (before : BidiClass) (
       (subst (λ n. AreTypesSoFar sos old current before (strong_at (row / 32)) Nothing n at) (sym (none-pending (row % 96) at at low))
       (types-settle sos old current before (strong_at (row / 32)) at d within simple (run_at (row / 32)) (pending (row / 32) start at) read)))
 
-  -- reading such a type
+  -- `AreRead` still holds after such a type has been read
   pub read-next : (next : ℕ) → row < 96 → next < 96 → strong_at (next / 32) ≡ strong_after (strong_at (row / 32)) (get_or current at d)
       → AreRead sos old current before row start at
       → AreRead sos old (set current at (w3_type (get_or current at d))) (get_or current at d) next (at + 1) (at + 1)

@@ -26,7 +26,7 @@ pub tag-below : (class : BidiClass) → bidi_tag class < 32
 tag-below L = omega arith
 tag-below _ = omega arith
 
--- the entries that the pass reads for a class
+-- ---- the entries that the pass reads for a class
 module _ (row : ℕ) (class : BidiClass) (within : row ≤ LAST_ROW) (starts : row % 32 ≡ 0) where
   place : (row + bidi_tag class) / 32 ≡ row / 32
   place = let below = tag-below class in omega (arith, below, starts)
@@ -138,7 +138,7 @@ done-below run type = elim (completes run type) as (λ b. (if b then COMPLETES e
   | false ↦ elim (not (lengthens run type) && waits (row_after run type)) as (λ b. (if b then BEGINS else KEEPS) ≤ 2) [ true ↦ omega arith | false ↦ omega arith ]
 ]
 
--- the parts of an entry
+-- ---- the parts of an entry
 module _ (state : ℕ) (class : BidiClass) (next : ℕ) (is : next ≡ next_by state class) where
   abbrev type : BidiClass
   type = turned (strong_at state) class
@@ -173,7 +173,7 @@ module _ (state : ℕ) (class : BidiClass) (next : ℕ) (is : next ≡ next_by s
   pub strong-is : strong_at (next / 4 / 32) ≡ strong_after (strong_at state) class
   strong-is = ap strong_at state-is ∙ strong-state (row_after (run_at state) type) (strong_after (strong_at state) class) is_later
 
--- where the pending types start after a type
+-- the pending types start where the definition says, after a type has been read
 pub starts-next : (run : Row) (type : BidiClass) (start next at : ℕ) → (done_by run type ≡ BEGINS → next ≡ at) → (done_by run type ≡ KEEPS → next ≡ start)
     → (if waits (row_after run type) then next else at + 1) ≡ start_after run type (if waits run then start else at) at
 starts-next Terminators ET start next at begins keeps = keeps refl
@@ -187,7 +187,7 @@ starts-next Arabic CS start next at begins keeps = begins refl
 starts-next EuropeanTerminators ET start next at begins keeps = refl
 starts-next _ _ start next at begins keeps = refl
 
--- a type that completes nothing
+-- neither `BEGINS` nor `KEEPS` is `COMPLETES`
 not_completed : (begins : Bool) → (if begins then BEGINS else KEEPS) ≢ COMPLETES
 not_completed true e = absurd (omega (arith, e))
 not_completed false e = absurd (omega (arith, e))

@@ -276,8 +276,8 @@ fn resolve_at(
     }
 }
 
-// Resolves the pairs in the order of their opening brackets. Returns what N0 decides for each of them. In
-// `types` are the types before N0, and then those after it.
+// Resolves the pairs in the order of their opening brackets. Returns what N0 decides for each of them. `types`
+// holds the types before N0, and then those after it.
 fn resolve_all(
     alloc: Global,
     types: &mut [BidiClass],

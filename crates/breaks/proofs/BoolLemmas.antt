@@ -75,7 +75,7 @@ pub entries_within : (table : List ℕ) (limit : ℕ) → nat_le 0 limit ≡ tru
 entries_within table limit default tested place entry reads =
     is_within entry limit (ap (λ e. nat_le e limit) reads ∙ passes_at (λ e. nat_le e limit) table place default tested)
 
--- an entry of a table, from the part of the table that begins with its row
+-- the part of a table that begins with a row has the row's entries
 pub entry_at : (table : List ℕ) (start row symbol entry : ℕ) → row ≡ start → entry ≡ get_or table (row + symbol) 0 → get_or (drop start table) symbol 0 ≡ entry
 entry_at table start row symbol entry begins reads =
     get_or-drop start table symbol 0 ∙ sym (reads ∙ ap (λ r. get_or table (r + symbol) 0) begins)

@@ -53,7 +53,7 @@ module _ (v : Version) (whole_numbers : Bool) (Like : List Base → List Base �
   abbrev rs : List Rule
   rs = rules v whole_numbers
 
-  -- the marks after bases that the rules do not distinguish
+  -- the marks are the same after bases that the rules do not distinguish
   like_marks : (p q rest : List Base) → Like p q → marks_after rs p rest ≡ marks_after rs q rest
   like_marks p q [] like = refl
   like_marks p q (b ∷ rest) like = rw (doubles.like_mark b p q rest like, like_marks (b ∷ p) (b ∷ q) rest (doubles.like_more b p q like)) refl
@@ -72,7 +72,7 @@ module _ (v : Version) (whole_numbers : Bool) (Like : List Base → List Base �
   twice : bases_of (c ∷ c ∷ after) ≡ alone c ∷ begun_by c attached ∷ others_after
   twice = rw (begins_alone c c free) (ap (λ bases. alone c ∷ bases) once)
 
-  -- the marks before the two characters
+  -- the marks before the two characters are the same as before one
   same_ahead : (last : Base) (others : List Base) (front : List Character)
       → mark_by rs (last ∷ others) (bases_of (front ++ c ∷ c ∷ after)) ≡ mark_by rs (last ∷ others) (bases_of (front ++ c ∷ after))
   same_ahead last others front =
@@ -80,11 +80,11 @@ module _ (v : Version) (whole_numbers : Bool) (Like : List Base → List Base �
       ∙ doubles.ahead last others (bases_of front) attached others_after
       ∙ sym (ap (mark_by rs (last ∷ others)) (bases_before front c after free ∙ ap (λ bases. bases_of front ++ bases) once))
 
-  -- the mark between the two characters
+  -- the mark between the two characters is `mark`
   mark_inside : (others : List Base) → mark_by rs (alone c ∷ others) (bases_of (c ∷ after)) ≡ mark
   mark_inside others = ap (mark_by rs (alone c ∷ others)) once ∙ doubles.between attached others others_after
 
-  -- the marks after the two characters
+  -- the marks after the two characters are the same as after one
   from_base : (others : List Base) → marks_after rs (alone c ∷ others) (begun_by c attached ∷ others_after) ≡ marks_after rs others (begun_by c attached ∷ others_after)
   from_base others =
       rw (

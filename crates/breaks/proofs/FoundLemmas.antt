@@ -28,7 +28,7 @@ bases_from c (d ∷ text) =
     ] in
     by (stays_with c d)
 
--- one more base is found
+-- when one more base is found, the bases found so far and the remaining ones are still the same bases
 pub found_more : (done : List Found) (b : Found) (rest : List Looked) (n : ℕ)
     → n ≡ attached_len (character_in b.first) (map character_in rest) → b.attached.now ≡ take n rest
     → map base_in (done ++ b ∷ []) ++ bases_of (map character_in (drop n rest)) ≡ map base_in done ++ bases_of (map character_in (b.first ∷ rest))
@@ -43,7 +43,7 @@ found_more done b rest n is attached =
     ∙ ap (parted c text) is
     ∙ sym (bases_from c text))
 
--- the last character of a base with attached characters
+-- the last character of a base with attached characters is the last attached one
 pub last_found : (c : Character) (attached : List Looked) (d : Looked) → 0 < length attached
     → last_of c (map character_in attached) ≡ character_in (get_or attached (length attached - 1) d)
 last_found c [] d some = absurd (omega (arith, some))

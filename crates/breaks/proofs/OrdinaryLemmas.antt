@@ -16,7 +16,7 @@ use Rattle.breaks.specs.declared.table.TheConstants.{STAYS, UNLESS}
 use Rattle.breaks.proofs.PassLemmas.{Passes15, kept, passes_as, starts}
 use Rattle.breaks.proofs.SymbolLemmas.{is_joiner}
 
--- the two parts of an ordinary character's definition
+-- neither of the conditions that an ordinary character must not meet holds
 parts : (a b : Bool) → (not a && not b) ≡ true → (a ≡ false) × (b ≡ false)
 parts false false h = (refl, refl)
 parts false true h = cc

@@ -72,7 +72,7 @@ begins_ordinary_17 walk symbol next_row outcome decided p lt shows reads_row rea
     (passes_begin_17 (full_walk walk) symbol next_row outcome decided false (begins_wide p) c lt shows reads_row reads_outcome begin
     (sym is.no_pictograph) refl decides last others stands)
 
--- the same for a walk with the same parts
+-- the same holds for any walk with this row, last character and character before it
 pub begun_ordinary_17 : (walk new : OrdinaryWalk17) (symbol next_row outcome decided : ℕ) (p : Properties) → symbol < SYMBOL_COUNT
     → shown_17 symbol ≡ told_17 (character_by V17_0 p) → next_row ≡ get_or NEXT_ROWS (walk.row + symbol) 0 → outcome ≡ get_or OUTCOMES (walk.row + symbol) 0
     → (outcome == STAYS) ≡ false → is_ordinary_17 p ≡ true → decided ≡ decided_17 outcome (bits_in (full_walk walk)) (begins_wide p)

@@ -261,7 +261,7 @@ asked_attaches OP detail h = refl
 asked_attaches QU detail h = refl
 asked_attaches class detail h = cc
 
--- the outcomes that are marks
+-- an outcome that is a mark is the same mark before any bases
 pub same_mark : (decided : ℕ) (p q : List Base) → nat_lt decided 4 ≡ true → mark_of_17 decided p ≡ mark_of_17 decided q
 same_mark zero p q lt = refl
 same_mark (suc zero) p q lt = refl
@@ -307,7 +307,7 @@ module _ (befores : List (List Bool)) (by_row : List Mark) (after : Bool → ℕ
       let parts : ((not (may_have c false) || Gives false) ≡ true) × ((not (may_have c true) || Gives true) ≡ true) = both _ _ h in
       ap (λ m. not m || Gives true) (sym may) ∙ parts.1
 
-  -- for one example of the bases after the position, and one value of the bits
+  -- the entry is correct for each example of the bases after the position, and each value of the bits
   given_at_bits : (wide : Bool) (place index : ℕ) → may_have c wide ≡ true → gives_17 befores by_row after marks outcome is_unattached c ≡ true
       → place < kinds_after c → index < 16
       → gives_bits befores by_row after marks outcome is_unattached (asks c) wide (after wide place) (marks place) index ≡ true
@@ -432,7 +432,7 @@ outcome_stays_17 state symbol next_row outcome entry_leads =
 abbrev pub Passes17 : Walk17 → Base → List Base → Character → ℕ → Type 0
 Passes17 after last others c decided = Passes (rules V17_0 false) (mark_of_17 decided) (Stands17 after) last others c
 
--- a character that joins the last base
+-- `Passes17` holds for a character that joins the last base
 pub passes_stay_17 : (walk : Walk17) (symbol next_row outcome : ℕ) (c : Character) → symbol < SYMBOL_COUNT → shown_17 symbol ≡ told_17 c
     → next_row ≡ get_or NEXT_ROWS (walk.row + symbol) 0 → outcome ≡ get_or OUTCOMES (walk.row + symbol) 0 → (outcome == STAYS) ≡ true
     → (last : Base) (others : List Base) → Stands17 walk last others
@@ -445,7 +445,7 @@ passes_stay_17 walk symbol next_row outcome c symbol_lt shows reads_row reads_ou
       attached_17 walk last others stands symbol next_row outcome c symbol_lt shows entry_leads stays,
     )
 
--- a character that begins a base
+-- `Passes17` holds for a character that begins a base
 pub passes_begin_17 : (walk : Walk17) (symbol next_row outcome decided : ℕ) (is_pictograph next_is_wide : Bool) (c : Character) → symbol < SYMBOL_COUNT
     → shown_17 symbol ≡ told_17 c → next_row ≡ get_or NEXT_ROWS (walk.row + symbol) 0 → outcome ≡ get_or OUTCOMES (walk.row + symbol) 0
     → (outcome == STAYS) ≡ false → is_pictograph ≡ c.is_future_pictograph → next_is_wide ≡ is_east_asian (alone c)

@@ -45,7 +45,7 @@ same_answer c answer rest h =
           rw (question, digit_is (is (NU ∷ []) rest)) refl
     ]
 
--- the answers before a character that begins a base
+-- ---- the answers before a character that begins a base
 right_by : (question : ℕ) (shown : Character) (answer : ℕ) (is_wide : Bool) → may_have shown is_wide ≡ true
     → answer_right_by question shown answer false ≡ true → answer_right_by question shown answer true ≡ true
     → answer_right question (with_width shown is_wide) (by_width answer is_wide) ≡ true

@@ -152,7 +152,7 @@ module _ {X : Type 0} (read : X → Character) (rest : List X) (whole : List Mar
 
 -- Reading on for a question: `asked` is the mark of the question at a character, given the bases after the next one.
 module _ {X : Type 0} (read : X → Character) (rest : List X) where
-  -- one step
+  -- reading one more character turns the question `asked` into the question `answer`
   pub asks_on : (asked answer : List Base → Mark) (i : ℕ) (x : X) (whole : Mark) → i < length rest → x ≡ get_or rest i x
       → ((text : List Character) → asked (bases_after (read x ∷ text)) ≡ answer (bases_after text))
       → whole ≡ asked (bases_after (map read (drop i rest))) → whole ≡ answer (bases_after (map read (drop (i + 1) rest)))

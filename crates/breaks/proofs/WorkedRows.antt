@@ -33,7 +33,7 @@ marks_by classes = marks (map narrow classes)
 abbrev whole_marks_by : List LineClass → List Mark
 whole_marks_by classes = whole_marks (map narrow classes)
 
--- LB1: the resolved classes
+-- LB1 resolves the classes AI, SA, CJ and XX
 ambiguous : resolved AI true ≡ AL
 ambiguous = refl
 
@@ -95,7 +95,7 @@ glue : marks_by (BA ∷ GL ∷ ID ∷ GL ∷ []) ≡ May ∷ Never ∷ Never ∷
 unfolding rules rows_before_numbers rows_of_numbers rows_after_numbers
 glue = refl
 
--- LB13 to LB17: rules that hold across spaces
+-- LB13 to LB17 hold across spaces
 opening : marks_by (OP ∷ SP ∷ AL ∷ []) ≡ Never ∷ Never ∷ Must ∷ []
 unfolding rules rows_before_numbers rows_of_numbers rows_after_numbers
 opening = refl
@@ -138,7 +138,7 @@ in_parentheses : marks_by (PR ∷ OP ∷ NU ∷ CP ∷ PO ∷ []) ≡ Never ∷ 
 unfolding rules rows_before_numbers rows_of_numbers rows_after_numbers
 in_parentheses = refl
 
--- LB25 as rules on pairs of bases, and with whole numbers
+-- LB25 is applied as rules on pairs of bases, and with whole numbers
 opened_price : (marks_by (PR ∷ OP ∷ NU ∷ []) ≡ Never ∷ Never ∷ Must ∷ []) × (whole_marks_by (PR ∷ OP ∷ NU ∷ []) ≡ Never ∷ Never ∷ Must ∷ [])
 unfolding rules rows_before_numbers rows_of_numbers rows_after_numbers
 opened_price = (refl, refl)
@@ -194,7 +194,7 @@ syllables : marks_by (H2 ∷ JT ∷ PO ∷ ID ∷ []) ≡ Never ∷ Never ∷ Ma
 unfolding rules rows_before_numbers rows_of_numbers rows_after_numbers
 syllables = refl
 
--- LB30: a parenthesis that is not wide
+-- LB30 applies to a parenthesis that is not wide
 narrow_parenthesis : marks (narrow AL ∷ narrow OP ∷ narrow AL ∷ narrow CP ∷ narrow AL ∷ []) ≡ Never ∷ Never ∷ Never ∷ Never ∷ Must ∷ []
 unfolding rules rows_before_numbers rows_of_numbers rows_after_numbers
 narrow_parenthesis = refl
@@ -239,7 +239,7 @@ two_hyphens : marks_by (HL ∷ HY ∷ HY ∷ HL ∷ []) ≡ Never ∷ Never ∷ 
 unfolding rules rows_before_numbers rows_of_numbers rows_after_numbers
 two_hyphens = refl
 
--- an empty text
+-- an empty text has no break marks
 nothing : marks [] ≡ []
 unfolding rules rows_before_numbers rows_of_numbers rows_after_numbers
 nothing = refl

@@ -18,14 +18,14 @@ marks text = marks_after (rules V17_0 false) [] (bases_of text)
 abbrev marks_by : List LineClass → List Mark
 marks_by classes = marks (map narrow classes)
 
--- classes that Unicode 15.0 does not have
+-- Unicode 15.0 does not have these classes
 unknown_in_15 : known V15_0 AK ≡ XX
 unknown_in_15 = refl
 
 known_in_17 : known V17_0 AK ≡ AK
 known_in_17 = refl
 
--- LB15a: no break after a quotation that begins, spaces or not
+-- LB15a prohibits a break after an opening quotation mark, even after spaces
 opening_quote : marks (quote Initial ∷ narrow SP ∷ narrow AL ∷ []) ≡ Never ∷ Never ∷ Must ∷ []
 unfolding rules rows_before_numbers rows_of_numbers rows_after_numbers
 opening_quote = refl
@@ -66,7 +66,7 @@ other_quotation : marks (narrow ID ∷ quote Initial ∷ narrow ID ∷ quote Fin
 unfolding rules rows_before_numbers rows_of_numbers rows_after_numbers
 other_quotation = refl
 
--- LB10: a CM that is AL is not East Asian
+-- a CM that LB10 turns into AL is not East Asian
 wide_mark_alone : marks (narrow SP ∷ wide CM ∷ quote Initial ∷ wide ID ∷ []) ≡ May ∷ Never ∷ Never ∷ Must ∷ []
 unfolding rules rows_before_numbers rows_of_numbers rows_after_numbers
 wide_mark_alone = refl

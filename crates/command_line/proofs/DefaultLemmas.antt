@@ -81,7 +81,7 @@ module _ (old : Command) (m : ArgMatches) (p : IsParsedFrom old m) (plain : IsPl
       let same = same_rules any.0 any.1 any.2 any.3 any.4.0 in
       sym any.4.1 ∙ ap reading_of (parser_is any.1 same)
 
-  -- the contents of the entry that has the argument's id
+  -- ---- the contents of the entry that has the argument's id
   module _ (x : MatchedArg) (found : matched_of (found_of m) arg.id.now ≡ Some x) (e : Entry) (same_x : e.1 ≡ x) (key : e.0.now ≡ arg.id.now)
       (pass : EntryPasses p.built e) where
     no_groups : groups_of p.built ≡ []

@@ -26,7 +26,7 @@ pub(crate) enum End {
     Table(TableFault),
     #[error("hordguli: cannot use tables.image: {0}")]
     TableImage(ImageFault),
-    /// Standard output is a pipe whose reader is gone, which is no error.
+    /// Standard output is a pipe whose reader is gone, which is not an error.
     #[error("")]
     Closed,
     /// An error that was reported.

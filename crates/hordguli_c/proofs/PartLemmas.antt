@@ -17,7 +17,7 @@ front_is (suc a) zero zs = refl
 front_is (suc a) (suc b) [] = refl
 front_is (suc a) (suc b) (z ∷ zs) = ap (λ ys. z ∷ ys) (front_is a b zs)
 
--- the part that `text_part` returns for the rest of a range
+-- ---- the part that `text_part` returns for the rest of a range
 module _ (kept : List Layout) (at count : ℕ) (within : at + count ≤ length (text_of kept)) where
   part_within : text_part kept at count ≡ Some (take count (slice_range (text_of kept) at (paragraph_end kept at)))
   part_within = cond-false (nat_lt (length (text_of kept)) (at + count)) None _ (le-ltb (length (text_of kept)) (at + count) within)

@@ -202,7 +202,7 @@ above_drop low zero xs above = above
 above_drop low (suc n) [] above = tt
 above_drop low (suc n) (x ∷ xs) above = above_drop low n xs above.1
 
--- L1 resets characters to the paragraph level
+-- if no level is below the paragraph level, L1 leaves none below it
 pub above_reset : (base : ℕ) (classes : List BidiClass) (levels : List ℕ) → Above base levels → Above base (line_levels base classes levels)
 above_reset base [] levels above = tt
 above_reset base (class ∷ classes) [] above = tt

@@ -277,7 +277,7 @@ bare_infos-append t n (c ∷ text) more [] rest size = absurd (omega (arith, siz
 bare_infos-append t n (c ∷ text) more (mark ∷ marks) rest size =
     ap (λ (ps : List CharInfo). info t n c mark false ∷ ps) (bare_infos-append t n text more marks rest (omega (arith, size)))
 
--- writing the items of the next m characters
+-- `PlacesPut` still holds after the items of the next m characters have been written
 pub PlacesPut-group : (t : Tables) (n : ℕ) (text : List ℕ) (marks : List Mark) (current piece : List CharInfo) (k m : ℕ) → PlacesPut t n text marks current k
     → k + m ≤ length text → length marks ≡ length text → piece ≡ bare_infos t n (take m (drop k text)) (take m (drop k marks))
     → PlacesPut t n text marks (put_mid k m current piece) (k + m)

@@ -33,7 +33,7 @@ one_range xs s e is within =
     let one : e - s ≡ 1 = omega (arith, is) in
     ap₂ (λ n (ys : List ℕ). take n ys) one (drop_more xs s 0 within)
 
--- the characters at the positions of a map
+-- without mirroring, the characters at the positions of a map are those that `ordered_chars` puts there
 pub ordered_places : (print : Print) (line : Visual) (s e : ℕ) → print.nomirror ≡ true
     → map (λ k. get_or line.text k 0) (slice_range line.vtol s e) ≡ slice_range (ordered_chars print line) s e
 ordered_places print line s e on =

@@ -15,7 +15,7 @@ is_end ends start len k = k == len || ends_at ends (start + k - 1)
 abbrev pub ends_up_to : List Bool → ℕ → ℕ → ℕ → List ℕ
 ends_up_to ends start len n = filter (is_end ends start len) (range_with_len 1 n)
 
--- one more end
+-- ---- one more end
 module _ (ends : List Bool) (start len k : ℕ) (some : 0 < k) where
   more : ends_up_to ends start len (k + 1 - 1) ≡ ends_up_to ends start len (k - 1) ++ filter (is_end ends start len) (k ∷ [])
   more =
@@ -32,7 +32,7 @@ module _ (ends : List Bool) (start len k : ℕ) (some : 0 < k) where
   pub ends_same : is_end ends start len k ≡ false → ends_up_to ends start len (k + 1 - 1) ≡ ends_up_to ends start len (k - 1)
   ends_same is = more ∙ ap (λ b. ends_up_to ends start len (k - 1) ++ cond b (k ∷ []) []) is ∙ append-nil (ends_up_to ends start len (k - 1))
 
--- two tests that agree
+-- tests that agree on a range select the same numbers of it
 filter_by : (p q : ℕ → Bool) (a n : ℕ) → ((k : ℕ) → a ≤ k → k < a + n → p k ≡ q k) → filter p (range_with_len a n) ≡ filter q (range_with_len a n)
 filter_by p q a zero same = refl
 filter_by p q a (suc n) same =

@@ -32,7 +32,7 @@ pairs_more starts items more parts k part below is so_far put =
     ap in_pairs (take_more parts k part below ∙ ap (λ (p : Shown). take k parts ++ p ∷ []) (sym is)) ∙ in_pairs-append (take k parts) (part ∷ []) in
     put ∙ append_assoc items (part.len ∷ []) (part.columns ∷ []) ∙ ap (λ (xs : List ℕ). xs ++ pair) so_far ∙ append_assoc starts pairs pair ∙ ap (λ (xs : List ℕ). starts ++ xs) (sym next)
 
--- the extents in a list that consists of starts and shown parts
+-- a list that consists of starts and shown parts is unpacked to extents with these starts and shown parts
 pub unpacked_is : (starts : List ℕ) (parts : List Shown) → length parts ≡ length starts
     → unpacked (starts ++ in_pairs parts) ≡ record { starts = starts; shown = parts }
 unpacked_is starts parts same =

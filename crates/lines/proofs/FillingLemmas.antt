@@ -33,7 +33,7 @@ greatest_skips p k (suc n) below fails =
 
 -- ---- sums
 
--- the first n characters before their tail
+-- the first n characters without their tail are the first n minus the tail's length
 shown_to : (rest : List CharInfo) (n : ℕ) → n ≤ length rest → before_tail (take n rest) ≡ take (n - suffix_len trails (take n rest)) rest
 shown_to rest n within =
     ap (λ m. take (m - suffix_len trails (take n rest)) (take n rest)) (length-take-le n rest within)
@@ -211,7 +211,7 @@ misfits_here width rest n sum next within read e counts wide =
       wide,
     ))
 
--- one more character that fits and has no mandatory break after it
+-- `FitsUpTo` still holds after one more character that fits and has no mandatory break after it
 pub fits_more : (width : ℕ) (rest : List CharInfo) (n sum next : ℕ) → n < length rest → FitsUpTo width rest n sum → next ≡ advance sum (place_at rest n)
     → next ≤ sum + 4294967295 → fits_to width rest n ≡ true → must_end rest n ≡ false → FitsUpTo width rest (n + 1) next
 fits_more width rest n sum next within read e most fit must =
@@ -247,7 +247,7 @@ none_at p xs k d none past =
       | inr after ↦ ap p (get_or_past xs k d after) ∙ past
     ]
 
--- the columns up to the end of a group of characters
+-- the columns of a group of characters, added to those before it, are the columns up to its end
 pub columns_group : (rest : List CharInfo) (n m sum more : ℕ) (piece : List CharInfo) → n ≤ m → piece ≡ slice_range rest n m → sum ≡ columns (take n rest)
     → fold advance sum piece ≡ sum + more → sum + more ≡ columns (take m rest)
 columns_group rest n m sum more piece forward is before total =
@@ -256,7 +256,7 @@ columns_group rest n m sum more piece forward is before total =
     ap (λ j. take j rest) (sym whole) ∙ take-add n (m - n) rest ∙ ap (λ (xs : List CharInfo). take n rest ++ xs) (sym is) in
     sym total ∙ ap (λ j. fold advance j piece) before ∙ sym (fold-append advance 0 (take n rest) piece) ∙ ap columns (sym joined)
 
--- a group of characters that fits and contains no mandatory break
+-- `FitsUpTo` still holds after a group of characters that fits and contains no mandatory break
 pub fits_group : (width : ℕ) (rest : List CharInfo) (n m sum more : ℕ) (piece : List CharInfo) → FitsUpTo width rest n sum → n ≤ m → m ≤ length rest
     → piece ≡ slice_range rest n m → fold advance sum piece ≡ sum + more → more ≤ 4294967295 * (m - n) → sum + more ≤ width → list_any (λ p. is_must p.mark) piece ≡ false
     → FitsUpTo width rest m (sum + more)
@@ -300,7 +300,7 @@ read_to_stop width rest test n sum within read fit must =
       | inr ne ↦ read.fits k (omega (arith, below, ne))
     ])
 
--- all characters fit
+-- if all characters fit, the greatest position that passes both tests is the greatest that passes `test`
 pub read_to_end : (width : ℕ) (rest : List CharInfo) (test : ℕ → Bool) (n sum : ℕ) → 0 < length rest → n ≡ length rest → FitsUpTo width rest n sum
     → greatest (λ k. test k && fits_to width rest k) (suc (stop rest)) ≡ greatest test n
 read_to_end width rest test n sum some e read =

@@ -154,7 +154,7 @@ hebrew_columns c lies =
       ]
     ]
 
--- the characters in one of the narrow ranges
+-- each character in one of the narrow ranges has width 1
 range_columns : (k first last c : ℕ) → get_or narrow_ranges k (0, 0) ≡ (first, last) → k < 5 → lies_in first last c ≡ true → 1 ≡ columns_of c
 range_columns k first last c at within lies = narrow_columns c (range_among narrow_ranges k first last c at within lies)
 

@@ -16,14 +16,14 @@ module _ {A : Type 0} (xs ys : List A) where
   read_both : (i j : ℕ) (d : A) → slice_get xs i ≡ slice_get ys j → get_or xs i d ≡ get_or ys j d
   read_both i j d same = sym (unwrap_or-slice_get xs i d) ∙ ap (λ o. unwrap_or o d) same ∙ unwrap_or-slice_get ys j d
 
-  -- the first k items match, and then one more
+  -- if the first k items match, and so do the next ones, the first k + 1 items match
   pub start_more : (k : ℕ) → k < length xs → k < length ys → take k xs ≡ take k ys → slice_get xs k ≡ slice_get ys k → take (k + 1) xs ≡ take (k + 1) ys
   start_more k x y so_far here = elim (slice_get_cases xs k).1 [
     | inl found ↦ take_more_same xs ys k found.0 x y so_far (read_both k k found.0 here)
     | inr past ↦ absurd (omega (arith, past.0, x))
   ]
 
-  -- the last k items match, and then the ones before them
+  -- if the last k items match, and so do the ones before them, the last k + 1 items match
   pub end_more : (k : ℕ) → k < length xs → k < length ys → drop (length xs - k) xs ≡ drop (length ys - k) ys → slice_get xs (length xs - k - 1) ≡ slice_get ys (length ys - k - 1)
       → drop (length xs - (k + 1)) xs ≡ drop (length ys - (k + 1)) ys
   end_more k x y so_far here =
@@ -50,7 +50,7 @@ module _ {A : Type 0} (xs ys : List A) where
       let j : length ys - 0 ≡ length ys = omega arith in
       ap (λ n. drop n xs) i ∙ drop-length xs ∙ sym (ap (λ n. drop n ys) j ∙ drop-length ys)
 
-  -- the items before the last k are the same, given numbers that equal the lengths
+  -- in a comparison of the items before the last k, numbers that equal the lengths can replace the lengths
   pub read_as : (n m k : ℕ) → n ≡ length xs → m ≡ length ys → slice_get xs (n - k - 1) ≡ slice_get ys (m - k - 1)
       → slice_get xs (length xs - k - 1) ≡ slice_get ys (length ys - k - 1)
   read_as n m k n-is m-is same =

@@ -17,7 +17,7 @@ use Rattle.lines.proofs.WidthLemmas.{length-advances_on, length-widths_of, width
 
 -- ---- one line
 
--- the advance of a character
+-- the advances of the characters of a text are the items of the list at their indices
 pub advance_at : (advances text : List ℕ) (k : ℕ) → k < length text → get_or (advances_on advances text) k 0 ≡ get_or advances k 0
 advance_at advances [] k within = absurd (omega (arith, within))
 advance_at [] (c ∷ text) zero within = refl
@@ -25,7 +25,7 @@ advance_at [] (c ∷ text) (suc k) within = advance_at [] text k (omega (arith, 
 advance_at (size ∷ advances) (c ∷ text) zero within = refl
 advance_at (size ∷ advances) (c ∷ text) (suc k) within = advance_at advances text k (omega (arith, within))
 
--- the width of a character, given the widths before it
+-- the width of a character depends on its advance and on the sum of the widths before it
 pub width_measured : (n k : ℕ) (advances text : List ℕ) → k < length text
     → get_or (widths_of n (Some advances) text) k 0 ≡ width_from n (sum (take k (widths_of n (Some advances) text))) (get_or text k 0) (get_or advances k 0)
 width_measured n k advances text within =
@@ -70,13 +70,13 @@ untabbed_lines advances text (line ∷ lines) same within =
     All-cons p line lines (sym (untabbed (on_line line advances) (on_line line text) sizes))
     (untabbed_lines advances text lines same (All-tail (λ (l : Line). l.start + length l.levels ≤ length text) line lines within))
 
--- one more item of a list is written
+-- writing item k of a list after its first k items completes its first k + 1 items
 pub next_written : (are written : List ℕ) (k width : ℕ) → k < length written → k < length are → take k written ≡ take k are → width ≡ get_or are k 0
     → take (k + 1) (set written k width) ≡ take (k + 1) are
 next_written are written k width below inside so_far is =
     take_more_set written k width below ∙ ap₂ (λ (xs : List ℕ) x. xs ++ x ∷ []) so_far is ∙ sym (take_more are k 0 inside)
 
--- the width of a character, given the known widths
+-- the width that is known for a character is its width
 pub known_width : (known : Option (List ℕ)) {line same : Visual} (k : ℕ) {v : ℕ} → line ≡ same → known_or known (widths_of same.tab_width None same.text) ≡ widths same
     → v ≡ get_or (known_or known (widths_of line.tab_width None line.text)) k 0 → v ≡ width_at same k
 known_width known {line} {same} k {v} e are is =
@@ -159,13 +159,13 @@ pub all_written : (tab_width n : ℕ) (text advances widths : List ℕ) (lines :
 all_written tab_width n text advances widths lines so_far past =
     subst (AreWidthsOf tab_width text advances widths) (take_all n lines past) so_far.done
 
--- the widths that a paragraph keeps without tab stops
+-- without tab stops, a paragraph keeps the widths of its characters in the first part of its list
 pub kept_untabbed : (tab_width : ℕ) (text sizes : List ℕ) (lines : List Line) → tab_width ≡ 0 → length text ≤ length sizes → All (λ line. line.start + length line.levels ≤ length text) lines
     → AreWidthsOf tab_width text (take (length text) sizes) (kept_widths tab_width text sizes) lines
 kept_untabbed tab_width text sizes lines none within inside =
     rw none (untabbed_lines (take (length text) sizes) text lines (length-take-le (length text) sizes within) inside)
 
--- the widths that it keeps after the advances
+-- with tab stops, it keeps them after the advances
 pub kept_tabbed : (tab_width : ℕ) (text sizes advances widths rest : List ℕ) (lines : List Line) → 0 < tab_width → sizes ≡ advances ++ (widths ++ rest) → length advances ≡ length text
     → length widths ≡ length text → AreWidthsOf tab_width text advances widths lines
     → AreWidthsOf tab_width text (take (length text) sizes) (kept_widths tab_width text sizes) lines
@@ -184,7 +184,7 @@ line_inside n k lines line here inside =
     let p : Line → Type 0 = λ (l : Line). l.start + length l.levels ≤ n in
     subst p (get_or_from_slice_get lines k line line here) (All-get_or p lines k line (slice_get_within lines k line here) inside)
 
--- what a list holds after all its items are written
+-- after all its items have been written, a list holds the written items
 pub whole_items : (len : ℕ) (new old : List ℕ) → length new ≡ length old → len ≡ length old → take len (new ++ drop (length new) old) ≡ new
 whole_items len new old same size =
     ap (λ (xs : List ℕ). take len (new ++ xs)) (drop_all (length new) old (omega (arith, same))) ∙ ap (take len) (append-nil new) ∙ take_all len new (omega (arith, same, size))
@@ -199,7 +199,7 @@ sizes_kept tab_width text old new lines len room front size widths = record {
   widths = widths;
 }
 
--- the same, given the text and the list as they were read
+-- the same holds for the text and the list as they were read
 pub sizes_after : (tab_width len : ℕ) (text seen old found new : List ℕ) (lines : List Line) → seen ≡ text → found ≡ old → len ≡ length old
     → kept_len tab_width text ≤ length old → sum (take (length text) old) < 2 ^ 32
     → take (length seen) new ≡ take (length seen) found → length new ≡ length found

@@ -209,7 +209,7 @@ module _ (rules : Rules) (width : ℕ) (text : List ℕ) (on : rules.options.reo
   abbrev part : ℕ → ℕ → Line
   part s e = line_between rules.tables rules.options margin (base_of rules text) text levels infos s e
 
-  -- line n of those that start at the given positions
+  -- ---- line n of those that start at the given positions
   nth : (starts : List ℕ) (n : ℕ) (it : Line) → slice_get (lines_from rules.tables rules.options margin (base_of rules text) text levels infos starts) n ≡ Some it
       → (n < length starts) × (it ≡ part (get_or starts n 0) (end_of (length text) starts n))
   nth [] n it is = absurd (none-some it is)
@@ -232,7 +232,7 @@ module _ (rules : Rules) (width : ℕ) (text : List ℕ) (on : rules.options.reo
         (if rules.options.reorder_clusters then cluster_classes ends ls else map (class_of rules.tables) (slice_range text s e)) ls) (sym levels_are)
         ∙ sym (clusters_ltov rules.options (map (class_of rules.tables) (slice_range text s e)) ends line.levels on)
 
-    -- whether a cluster of the paragraph ends after a character of the line
+    -- a cluster of the line ends after a character if and only if a cluster of the paragraph ends there
     end_at : (i : ℕ) → i < e - s → get_or ends i false ≡ ends_at (cluster_ends text) (s + i)
     end_at i below =
         get_or-take (e - s) (drop s (ends_by rules.options text)) i false below

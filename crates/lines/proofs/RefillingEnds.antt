@@ -25,7 +25,7 @@ same_within n k ps qs same below within = omega (arith, length-take n ps, length
 
 -- ---- the least and the greatest number that passes a test
 
--- the first number below n that passes, if there is one
+-- either no number below n passes a test, or there is a first one that does
 first_below : (test : ℕ → Bool) (n : ℕ) → ((k : ℕ) → k < n → test k ≡ false) ⊎ ((z : ℕ) × (z < n) × (test z ≡ true) × ((k : ℕ) → k < z → test k ≡ false))
 first_below test zero = inl (λ k below. absurd (omega (arith, below)))
 first_below test (suc n) =
@@ -62,8 +62,8 @@ greatest_least p (suc n) k below passed =
 
 -- ---- where the first line ends
 
--- A character before n that does not fit in the first line, or after which the line must end. So the line ends before n,
--- or there is no place at which it both may end and fits.
+-- A character before n that does not fit on the first line, or after which the line must end. So the line
+-- ends before n, or there is no place at which it both may end and fits.
 abbrev pub Ends : ℕ → ℕ → List CharInfo → Type 0
 Ends width n rest = (m : ℕ) × (m < n) × (m < length rest) × ((fits_to width rest m ≡ false) ⊎ (must_end rest m ≡ true))
 
@@ -71,7 +71,7 @@ Ends width n rest = (m : ℕ) × (m < n) × (m < length rest) × ((fits_to width
 abbrev last_of : (List CharInfo → ℕ → Bool) → ℕ → List CharInfo → Option ℕ
 last_of test width rest = greatest (λ k. test rest k && fits_to width rest k) (suc (stop rest))
 
--- both tests see one character
+-- whether a test of a position depends only on the character there
 abbrev IsLocal : (List CharInfo → ℕ → Bool) → Type 0
 IsLocal test = (ps qs : List CharInfo) (k : ℕ) → place_at ps k ≡ place_at qs k → test ps k ≡ test qs k
 
@@ -83,7 +83,7 @@ local_both test width n k ps qs local same below =
 same_must : (n k : ℕ) (ps qs : List CharInfo) → take n ps ≡ take n qs → k < n → must_end ps k ≡ must_end qs k
 same_must n k ps qs same below = ap (λ (p : CharInfo). must_end (p ∷ []) 0) (same_place n k ps qs same below)
 
--- the first mandatory break is before n
+-- if the first mandatory break is before n, it is at the same place in both texts
 same_stop : (n z : ℕ) (ps qs : List CharInfo) → take n ps ≡ take n qs → z < n → z < length ps → must_end ps z ≡ true → ((k : ℕ) → k < z → must_end ps k ≡ false)
     → (stop ps ≡ z) × (stop qs ≡ z)
 same_stop n z ps qs same below within here before = (
@@ -141,7 +141,7 @@ candidate_within ps k candidate =
 same_candidate : (n k : ℕ) (ps qs : List CharInfo) → take n ps ≡ take n qs → k < n → is_candidate ps k ≡ is_candidate qs k
 same_candidate n k ps qs same below = ap (λ (p : CharInfo). is_candidate (p ∷ []) 0) (same_place n k ps qs same below)
 
--- the first place at which the line may end or a cluster ends is before n
+-- if the first place at which the line may end or a cluster ends is before n, it is the same in both texts
 same_first : (n : ℕ) (ps qs : List CharInfo) → take n ps ≡ take n qs → first_end ps < n → suc (first_end ps) < length ps → first_end qs ≡ first_end ps
 same_first n ps qs same below within =
     elim (first_below (is_candidate ps) (length ps)) [
@@ -168,7 +168,7 @@ same_end width n ps qs same ends below within =
     refl
     (λ e. same_first n ps qs same (omega (arith, e, below)) (omega (arith, e, within)) ∙ e)
 
--- a break opportunity after the line and before n
+-- if there is a break opportunity at k, after the line and before n, `Ends` holds for n
 pub ends_by_break : (width n k : ℕ) (ps : List CharInfo) → line_end width ps < k → k < n → may_end ps k ≡ true → Ends width n ps
 ends_by_break width n k ps after below may =
     let within : k < length ps = candidate_within ps k (or_left (may_end ps k) (cluster_ends_at ps k) may) in
@@ -199,7 +199,8 @@ no_break width ps plain =
           absurd (both_ways (may_end ps (line_end width ps)) plain (ap (may_end ps) is ∙ passed.0))
     ]
 
--- a place at which a cluster ends, after a line that ends at no break opportunity
+-- if a line ends at no break opportunity, and a line may end or a cluster ends at k after it, `Ends` holds up
+-- to k + 1
 pub ends_by_cluster : (width k : ℕ) (ps : List CharInfo) → line_end width ps < k → may_end ps (line_end width ps) ≡ false → is_candidate ps k ≡ true → Ends width (suc k) ps
 ends_by_cluster width k ps after plain candidate =
     let within : k < length ps = candidate_within ps k candidate in
@@ -254,7 +255,7 @@ ends_by_next width s k ps is after candidate =
           ends_within width (s + suc (k - s)) (suc k) ps (omega (arith, after)) (ends_earlier width (suc (k - s)) s ps ends)
     ]
 
--- without line breaks but mandatory ones
+-- without line breaks except mandatory ones, the first line ends at the same place in both texts
 pub same_stop_end : (n : ℕ) (ps qs : List CharInfo) → take n ps ≡ take n qs → stop ps < n → suc (stop ps) < length ps → stop qs ≡ stop ps
 same_stop_end n ps qs same below within =
     elim (first_below (must_end ps) (length ps)) [

@@ -136,7 +136,7 @@ module _ (width place k s : ℕ) (ps : List CharInfo) where
 
 -- ---- starts up to a line start
 
--- the same condition without the first character
+-- the condition also holds without the first character
 later_which : (place k s : ℕ) (p : CharInfo) (ps : List CharInfo) → (may_end (p ∷ ps) (suc k) ≡ true) ⊎ ((e : ℕ) → place + suc e ≡ s → may_end (p ∷ ps) e ≡ false)
     → (may_end ps k ≡ true) ⊎ ((e : ℕ) → suc place + suc e ≡ s → may_end ps e ≡ false)
 later_which place k s p ps (inl may) = inl may
@@ -163,7 +163,9 @@ starts_same nobreak width place (suc left) (suc n) (p ∷ ps) (q ∷ qs) i zero 
 starts_same nobreak width place (suc left) (suc n) (p ∷ ps) (q ∷ qs) i (suc k) s same within is after below candidate which =
     starts_same nobreak width (suc place) left n ps qs i k s (ap (drop 1) same) within is (omega (arith, after)) (omega (arith, below)) candidate (later_which place k s p ps which)
 
--- a place at which a cluster ends, before n and at or after the i-th line start, s
+-- the line starts up to the i-th, s, are the same in both texts if, at or after s and before n, a line may
+-- end or a cluster ends at k, and either the line may end at k or the line before s ends at no break
+-- opportunity
 stays_by : (nobreak : Bool) (width : ℕ) (ps qs : List CharInfo) (n i s k : ℕ) → take n ps ≡ take n qs → slice_get (line_starts_of nobreak width ps) i ≡ Some s → s ≤ k → k < n → is_candidate ps k ≡ true
     → (may_end ps k ≡ true) ⊎ (may_end ps (s - 1) ≡ false) → take (suc i) (line_starts_of nobreak width qs) ≡ take (suc i) (line_starts_of nobreak width ps)
 unfolding line_starts_of
@@ -219,7 +221,8 @@ start_there : (nobreak : Bool) (width : ℕ) (ps : List CharInfo) (i k t : ℕ) 
 start_there nobreak width ps i k t e before =
     slice_get-get_or (line_starts_of nobreak width ps) i 0 (omega (arith, slice_get_within (line_starts_of nobreak width ps) k t e, before))
 
--- the line from s on and the line from u on end before n
+-- if the line from s on and the line from u on end before n, the first i + 1 line starts are the same in both
+-- texts
 stays_between : (nobreak : Bool) (width : ℕ) (ps qs : List CharInfo) (n i s u t : ℕ) → take n ps ≡ take n qs → slice_get (line_starts_of nobreak width ps) i ≡ Some s
     → slice_get (line_starts_of nobreak width ps) (i + 1) ≡ Some u → slice_get (line_starts_of nobreak width ps) (i + 1 + 1) ≡ Some t → t ≤ n
     → take (suc i) (line_starts_of nobreak width qs) ≡ take (suc i) (line_starts_of nobreak width ps)

@@ -39,7 +39,7 @@ module _ (options : Options) (classes : List BidiClass) (ends : List Bool) (leve
   unfolding vtol_of
   not_reordered off = ap (λ b. vtol_of b (classes_by options classes ends levels) levels) (sym off)
 
--- a range that is clipped to the length of a list
+-- clipping a range to the length of a list does not change the items in the range
 pub cut_range : {X : Type 0} (xs : List X) (s e : ℕ) → s ≤ e → slice_range xs (min s (length xs)) (min e (length xs)) ≡ slice_range xs s e
 cut_range xs s e order =
     let n : ℕ = length xs in
@@ -64,7 +64,7 @@ cut_range xs s e order =
           ]
     ]
 
--- the cluster ends of a whole paragraph
+-- a paragraph has at most as many cluster ends as characters
 pub length-ends_by : (options : Options) (text : List ℕ) → length (ends_by options text) ≤ length text
 length-ends_by options text =
     let size : Bool → ℕ = λ b. length (if b then cluster_ends text else []) in

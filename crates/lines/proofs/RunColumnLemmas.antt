@@ -15,7 +15,7 @@ module _ (ws : List ℕ) where
   abbrev at : ℕ → ℕ
   at k = get_or ws k 0
 
-  -- the columns of the characters of a range
+  -- the columns of the characters of a range add up to the sum of this part of the widths
   pub in_range : (a n : ℕ) → a + n ≤ length ws → sum_by at (range_with_len a n) ≡ sum (take n (drop a ws))
   in_range a zero within = refl
   in_range a (suc n) within =

@@ -64,7 +64,7 @@ module _ (p q : ℕ → Bool) (front : ℕ) where
       ap (λ m. after (least p m count) total) next
       ∙ end_shift total len count n (suc j) (omega (arith, sum)) (omega (arith, few)) more last same)
 
--- the same for lists: the ends of a text in three parts, and those of the part in the middle
+-- ---- the same for lists: the ends of a text in three parts, and those of the part in the middle
 module _ (front ends rest : List Bool) (j : ℕ) (within : j < length ends) where
   pub ends_same : (i : ℕ) → i < length ends → ends_at (front ++ (ends ++ rest)) (length front + i) ≡ ends_at ends i
   ends_same i below = get_or-append-add front (ends ++ rest) i false ∙ get_or_append_left ends rest false i below
@@ -89,7 +89,7 @@ module _ (front ends rest : List Bool) (j : ℕ) (within : j < length ends) wher
       end_shift (ends_at (front ++ (ends ++ rest))) (ends_at ends) (length front) (length (front ++ (ends ++ rest))) (length ends)
       (length (front ++ (ends ++ rest)) - (length front + j)) (length ends - j) j (omega (arith, within)) (omega (arith, sizes, within)) within last ends_same
 
--- a segment of one character
+-- in a segment of one character, the first cluster ends after this character
 pub only_end : (ends : List Bool) → length ends ≡ 1 → ends_at ends (length ends - 1) ≡ true → cluster_end ends 0 ≡ 1
 only_end ends one last =
     let first : ends_at ends 0 ≡ true = ap (ends_at ends) (omega (arith, one)) ∙ last in

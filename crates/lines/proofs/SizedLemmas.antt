@@ -84,12 +84,12 @@ pub sized_take : (n : ℕ) (advances : Option (List ℕ)) (ps : List CharInfo) �
 sized_take n None ps = refl
 sized_take n (Some advances) ps = measured_take n advances ps
 
--- the sizes of a part, given those from its start on
+-- the sizes of a part are a part of the sizes from the start of the part on
 pub sized_range : (advances later : Option (List ℕ)) (ps : List CharInfo) (s e : ℕ) → sized later (drop s ps) ≡ drop s (sized advances ps)
     → sized later (slice_range ps s e) ≡ slice_range (sized advances ps) s e
 sized_range advances later ps s e from = sized_take (e - s) later (drop s ps) ∙ ap (take (e - s)) from
 
--- how much of a part is shown
+-- how much of a part is shown can be computed from the sizes from its start on
 pub shown_range : (margin : Option ℕ) (advances later : Option (List ℕ)) (ps : List CharInfo) (s e : ℕ) (part : Shown) → sized later (drop s ps) ≡ drop s (sized advances ps)
     → part.len ≡ length (shown margin (sized later (slice_range ps s e))) → part.columns ≡ columns (shown margin (sized later (slice_range ps s e)))
     → part ≡ shown_between margin (sized advances ps) s e
@@ -126,7 +126,7 @@ sized_first_end advances ps =
     (ap (least (test (sized advances ps)) 0) (length-sized advances ps)
     ∙ least_same (test (sized advances ps)) (test ps) 0 (length ps) (λ k. ap (λ (p : CharInfo). is_break p.mark || p.ends_cluster) (sized_at advances ps k)))
 
--- the last break opportunity and the last cluster end among the first n characters
+-- sizes do not change the last break opportunity or the last cluster end among the first n characters
 pub sized_break : (advances : Option (List ℕ)) (ps : List CharInfo) (n : ℕ) → greatest (may_end (sized advances ps)) n ≡ greatest (may_end ps) n
 sized_break advances ps n =
     greatest_same (may_end (sized advances ps)) (may_end ps) n (λ k. ap (λ (p : CharInfo). is_break p.mark) (sized_at advances ps k))
@@ -140,7 +140,7 @@ pub sized_infos : (t : Tables) (options : Options) (advances : Option (List ℕ)
 unfolding infos_of
 sized_infos t options advances text = refl
 
--- the extents that filling finds
+-- filling finds the extents of the definition
 pub found_extents : (rules : Rules) (advances given : Option (List ℕ)) (width : ℕ) (text : List ℕ) (infos : List CharInfo) (extents : LineExtents) → given ≡ advances
     → infos ≡ infos_of rules.tables rules.options None text
     → extents.starts ≡ line_starts_of rules.options.nobreak width (sized given infos)

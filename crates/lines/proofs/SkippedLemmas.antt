@@ -117,7 +117,7 @@ pub direction_only : (rules : Rules) (width : ℕ) (print : Print) (text : List 
 direction_only rules width print text skips paragraph marks =
     sym (all_are width print skips (base_of rules text) (tab_width_in rules.tables rules.options) rules.advances text (lines_of rules width text) (lines_of rules width text) (some_lines rules width text paragraph marks))
 
--- the same for a base level that was found in the text, which has as many marks as characters
+-- the same holds if the base level was found in the text, which has as many marks as characters
 pub direction_found : (rules : Rules) (width : ℕ) (print : Print) (text : List ℕ) (base : ℕ) → skips_lines print ≡ true → IsParagraph rules text
     → base ≡ base_of rules text → (if print.basedir then direction_line base else []) ≡ paragraph_bytes rules width print text
 direction_found rules width print text base skips paragraph found =

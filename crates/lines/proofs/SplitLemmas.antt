@@ -99,7 +99,7 @@ goes_on a b c d same = ap (λ e. a || (b && e)) same
 between : (a b c d : Bool) → c ≡ d → (a && c && b) ≡ (a && d && b)
 between a b c d same = ap (λ e. a && e && b) same
 
--- no rule looks back past the second one
+-- if a text can be split between w and x, no rule for the characters after x looks back past x
 module _ (w x : ℕ) (split : can_split w x ≡ true) (far : List ℕ) where
   tests : (may_end (grapheme_cluster_break w) ≡ true) × (may_start (grapheme_cluster_break x) ≡ true) × (no_conjunct (indic_conjunct_break w) (indic_conjunct_break x) ≡ true)
   tests = split_parts w x split

@@ -88,7 +88,7 @@ end_low width rest some =
 may_at : (mark : Mark) → mark ≡ Must → is_break mark ≡ true
 may_at mark e = ap is_break e
 
--- if all characters fit in one line, and the line must end only after the last of them, it ends there
+-- if all characters fit on one line, and the line must end only after the last of them, it ends there
 pub end_whole : (width : ℕ) (rest : List CharInfo) (last : ℕ) → length rest ≡ suc last → (place_at rest last).mark ≡ Must → columns (before_tail rest) ≤ width → stop rest ≡ last
     → line_end width rest ≡ last
 end_whole width rest last size ends fit stops =
@@ -214,7 +214,7 @@ hides t tab_width advances width text line ps n size sum below within info =
     ∙ sym (ap (λ (o : Option ℕ). option_map_or (λ d. is_space (trailing_with t tab_width d)
     && nat_le (line.columns + width_from tab_width line.columns d (get_or sizes (length line.levels) 0)) width) o false) found)
 
--- whether the first hidden character is a space that fits, given its `CharInfo`
+-- the `CharInfo` of the first hidden character shows whether it is a space that fits
 pub hidden_is : (t : Tables) (tab_width width c size : ℕ) (advances : Option (List ℕ)) (text : List ℕ) (line : Line) (mark : Mark) (b : Bool) → slice_get text (length line.levels) ≡ Some c
     → size ≡ get_or (sizes_of tab_width advances text) (length line.levels) 0
     → b ≡ (is_space (info t tab_width c mark false).trailing && nat_le (advance line.columns (record (info t tab_width c mark false) { columns = size })) width)

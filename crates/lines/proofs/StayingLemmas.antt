@@ -50,7 +50,7 @@ module _ (tables : Tables) (options : Options) (margin : Option ℕ) (base : ℕ
       ap₂ (λ n parts. let part : Shown = record { len = n; columns = (shown_between margin infos s t).columns } in part ∷ parts)
       (levels_shown s t (omega (arith, rise.2.0)) (omega (arith, rise.2.1))) (shown_in_lines (suc s) (t ∷ starts) rise.2)
 
-  -- the k-th line with the given extents
+  -- the k-th line has the k-th start and the k-th shown part
   line_at : (starts : List ℕ) (parts : List Shown) (k : ℕ) → length parts ≡ length starts → k < length starts
       → slice_get (lines_shown tables options base text levels starts parts) k
       ≡ Some (line_showing tables options base text levels (slice_index_or parts k nothing_shown) (slice_index starts k) (end_of (length text) starts k))
@@ -261,12 +261,12 @@ module _ (rules : Rules) (text : List ℕ) where
               (end_here n (omega arith) in_first in_second));
         }
 
--- the same fact about equal extents and equal lines
+-- the fact also holds for equal extents and equal lines
 moved : {n : ℕ} (a b c d : LineExtents) (k i m j : ℕ) → a ≡ b → c ≡ d → k ≡ i → m ≡ j → HaveSamePlace n a c k m → HaveSamePlace n b d i j
 moved {n} a b c d k i m j first second left right same =
     subst (λ e. HaveSamePlace n e d i j) first (subst (λ e. HaveSamePlace n a e i j) second (subst (λ x. HaveSamePlace n a c x j) left (subst (λ x. HaveSamePlace n a c k x) right same)))
 
--- the lines of a layout that was found at some width, and those at another width
+-- ---- the lines of a layout that was found at some width, and those at another width
 module _ (layout : Layout) (old new : LineExtents) (n : ℕ) (old-is : old ≡ extents_in layout.lines) (in_old : n ≤ length old.starts) (in_new : n ≤ length new.starts) where
   module _ (rules : Rules) (width : ℕ) (laid : IsLaidOut rules layout) (is : new ≡ extents_of rules width layout.text) where
     was : old ≡ extents_of rules laid.width layout.text

@@ -87,7 +87,7 @@ module _ (f : ℕ → ℕ) (i : ℕ) where
               ]
         ]
 
-  -- L2 for levels above that of i
+  -- reversing the intervals of levels above that of i does not change the sum before i
   kept : (levels : List ℕ) (low count : ℕ) (xs : List ℕ) → get_or levels i 0 < low → sum_before f i (reversed_from levels low count xs) ≡ sum_before f i xs
   kept levels low zero xs below = refl
   kept levels low (suc count) xs below =
@@ -192,7 +192,7 @@ module _ (f : ℕ → ℕ) (i : ℕ) where
     after = without_reverse w.front w.before;
   }
 
-  -- what comes before an item, the item, and what comes after it
+  -- the sums before an item, of the item and after it add up to the whole sum
   once_sum : (xs : List ℕ) → IsOnce xs → sum_before f i xs + f i + sum_before f i (reverse xs) ≡ sum_by f xs
   unfolding once_reverse
   once_sum xs w =
@@ -237,7 +237,8 @@ module _ (ws levels : List ℕ) (i : ℕ) (within : i < length levels) where
   abbrev order : List ℕ
   order = order_of levels
 
-  -- the columns before a character at level 0 in the order of L2
+  -- in the order of L2, the columns before a character at level 0 are those of the characters before it in
+  -- the text
   pub at_zero : get_or levels i 0 ≡ 0 → sum_before (at ws) i order ≡ sum_by (at ws) (range_with_len 0 i)
   unfolding order_of
   at_zero level = go (lowest_odd levels) refl
@@ -273,7 +274,7 @@ module _ (ws levels : List ℕ) (i : ℕ) (within : i < length levels) where
             omega (arith, here));
       }
 
-  -- the columns before a character at level 1 in the order of L2, if no character is at level 0
+  -- ---- the columns before a character at level 1 in the order of L2, if no character is at level 0
   module _ (level : get_or levels i 0 ≡ 1) (above : (k : ℕ) → k < length levels → 1 ≤ get_or levels k 0) where
     high : 1 ≤ highest levels
     high = omega (arith, level, max_at 0 levels i within)
@@ -370,7 +371,7 @@ module _ (line : Visual) (ordered : IsOrdered line) (stay : StayByL2 line) (tota
     abbrev n : ℕ
     n = size_at line k
 
-    -- the columns from the start of the line to the end of the tab
+    -- the columns from the start of the line to the end of the tab are a multiple of the tab width
     ends_tab : (sum (take k ws) + at ws k) % n ≡ 0
     ends_tab =
         let within : k < length line.text = inside line k is ordered.text in

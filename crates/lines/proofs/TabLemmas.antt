@@ -57,14 +57,14 @@ tab_control : grapheme_cluster_break 9 ≡ Control
 unfolding grapheme_cluster_break value_in grapheme_cluster_break_rows
 tab_control = refl
 
--- GB5
+-- there is a break before a control character (GB5)
 starts_control : (g : GraphemeClusterBreak) → break_by_pair true g Control ≡ Some true
 starts_control Control = refl
 starts_control Cr = refl
 starts_control Lf = refl
 starts_control g = refl
 
--- GB4
+-- there is a break after a tab (GB4)
 breaks_after : (before text : List ℕ) → is_grapheme_break true (9 ∷ before) text ≡ true
 unfolding is_grapheme_break
 breaks_after before [] = refl

@@ -69,7 +69,7 @@ width_is n k advances text within =
     let e : 0 + sum (take k (widths_from n 0 text sizes)) ≡ sum (take k (widths_from n 0 text sizes)) = omega arith in
     from_at n 0 k text sizes (length-sizes n advances text) within ∙ ap (λ m. width_from n m (get_or text k 0) (get_or sizes k 0)) e
 
--- the size of a character of a paragraph that is not measured
+-- the size of a character of a paragraph that is not measured depends only on this character
 pub size_is : (n k : ℕ) (text : List ℕ) → k < length text → get_or (sizes_of n None text) k 0 ≡ size_in n (get_or text k 0)
 size_is n k text within = get_or-map (size_in n) text k 0 0 within
 
@@ -94,7 +94,7 @@ width_tab n k advances text within tab =
     width_is n k advances text within
     ∙ cond-true (is_tab n (get_or text k 0)) (to_stop size (sum (take k (widths_of n advances text)))) size tab
 
--- the columns up to the end of character k
+-- the columns up to the end of character k are those before it, plus its own
 pub sum_next : (n k : ℕ) (advances : Option (List ℕ)) (text : List ℕ) → k < length text
     → sum (take (k + 1) (widths_of n advances text)) ≡ sum (take k (widths_of n advances text)) + get_or (widths_of n advances text) k 0
 sum_next n k advances text within = sum_by_more (λ x. x) (widths_of n advances text) k 0 (omega (arith, within, length-widths_of n advances text))
@@ -115,7 +115,7 @@ tab_ends n k advances text within some tab =
     let before : ℕ = sum (take k (widths_of n advances text)) in
     ap (λ x. x % size) (sum_next n k advances text within ∙ ap (λ w. before + w) (width_tab n k advances text within tab)) ∙ stop_ends size before some
 
--- columns after a tab stop
+-- counting columns from a tab stop gives the same remainder as counting them from the start
 past_stop : (n columns stop : ℕ) → stop % n ≡ 0 → columns % n ≡ (columns + stop) % n
 past_stop n columns stop at =
     let e : columns + stop / n * n ≡ columns + stop = omega (arith, mod-add-div' stop n, at) in
@@ -176,7 +176,7 @@ advance_info t n column c mark ends =
       | inr other ↦ rw other (rw (stays (resolved (line_class_of t c) (is_mark_in t c))) refl)
     ]
 
--- the same, with an advance in place of the columns
+-- the same holds with an advance in place of the columns
 pub advance_measured : (t : Tables) (n column c size : ℕ) (mark : Mark) (ends : Bool)
     → advance column (record (info t n c mark ends) { columns = size }) ≡ column + width_from n column c size
 advance_measured t n column c size mark ends =

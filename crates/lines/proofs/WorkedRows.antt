@@ -78,7 +78,7 @@ after_separator = refl
 no_tail : shown_lens (letter ∷ space ∷ letter ∷ []) ≡ 3 ∷ 3 ∷ 3 ∷ 3 ∷ 3 ∷ []
 no_tail = refl
 
--- spaces of no columns, and of two
+-- spaces may have no columns, or two
 shown_lens_of_zero : shown_lens (letter ∷ letter ∷ letter ∷ record space { columns = 0 } ∷ space ∷ []) ≡ 3 ∷ 5 ∷ 5 ∷ 4 ∷ 3 ∷ []
 shown_lens_of_zero = refl
 
@@ -88,7 +88,7 @@ shown_lens_of_two = refl
 columns_shown : columns (shown (Some 4) (letter ∷ letter ∷ letter ∷ space ∷ last_space ∷ [])) ≡ 4
 columns_shown = refl
 
--- `a`, a space with a combining mark, and `b`: the line may end inside a cluster
+-- in `a`, a space with a combining mark, and `b`, the line may end inside a cluster
 inside : starts 1 (letter ∷ record last_space { ends_cluster = false } ∷ record letter { columns = 0 } ∷ last ∷ []) ≡ 0 ∷ 2 ∷ []
 unfolding line_starts_of
 inside = refl
@@ -128,7 +128,7 @@ tab n = record { columns = n; trailing = Tab; mark = May; ends_cluster = true }
 abbrev mark : CharInfo
 mark = record letter { columns = 0 }
 
--- a tab that starts a line, two tabs, and a tab at a tab stop
+-- a tab moves to the next tab stop
 tabs_alone : map (λ n. columns (replicate n (tab 4))) (0 ∷ 1 ∷ 2 ∷ 3 ∷ []) ≡ 0 ∷ 4 ∷ 8 ∷ 12 ∷ []
 tabs_alone = refl
 
@@ -144,7 +144,7 @@ tab_after_wide = refl
 tab_after_mark : columns (letter ∷ mark ∷ tab 4 ∷ letter ∷ []) ≡ 5
 tab_after_mark = refl
 
--- the least and the greatest tab width
+-- the tab width is at least 1 and at most 255
 tab_widths : columns (letter ∷ tab 1 ∷ tab 1 ∷ []) ∷ columns (letter ∷ tab 255 ∷ []) ∷ columns (tab 255 ∷ tab 255 ∷ letter ∷ []) ∷ [] ≡ 3 ∷ 255 ∷ 511 ∷ []
 tab_widths = refl
 
@@ -161,7 +161,7 @@ tab_last : starts 4 tabbed ≡ 0 ∷ 4 ∷ 9 ∷ []
 unfolding line_starts_of
 tab_last = refl
 
--- a tab that does not fit is wider than its line
+-- a tab that is wider than the width gets a line of its own
 tab_alone : starts 3 (letter ∷ letter ∷ letter ∷ tab 4 ∷ last ∷ []) ≡ 0 ∷ 3 ∷ 4 ∷ []
 unfolding line_starts_of
 tab_alone = refl

@@ -26,7 +26,7 @@ abbrev pub size_in : ℕ → ℕ → ℕ
 size_in tab_width c = if is_tab tab_width c then tab_width else columns_of c
 
 -- the role in a tail of a character with this class after LB1: SP is a space, and BK, CR, LF and NL are separators;
--- other characters are in no tail
+-- other characters are never in a tail
 abbrev pub trailing_by : LineClass → Trailing
 trailing_by class = if is_one_of (SP ∷ []) class then Space else if is_one_of (BK ∷ CR ∷ LF ∷ NL ∷ []) class then Separator else No
 

@@ -24,13 +24,13 @@ use ucd::{LineClass, Properties, Tables};
 /// The role of a character in a tail, which is what follows the text of a line.
 #[derive(Clone, Copy, Debug, PartialEq, Eq)]
 pub enum Trailing {
-    /// The character is in no tail.
+    /// The character is never in a tail.
     No,
     /// A space (line breaking class SP).
     Space,
     /// A separator (line breaking class BK, CR, LF or NL).
     Separator,
-    /// The character is a tab that moves to a tab stop, and is in no tail.
+    /// The character is a tab that moves to a tab stop, and is never in a tail.
     Tab,
 }
 

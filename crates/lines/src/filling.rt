@@ -203,7 +203,7 @@ fn fitting_len<S: Sizes>(rest: &[CharInfo], ruler: Ruler<S>) -> usize
     fitting_after(rest, ruler, len, columns)
 }
 
-// Reads groups of characters while they fit in the first line and contain no mandatory break. Returns the
+// Reads groups of characters while they fit on the first line and contain no mandatory break. Returns the
 // number of characters and their columns.
 fn fitting_groups<S: Sizes>(rest: &[CharInfo], ruler: Ruler<S>) -> (usize, usize)
     requires { length rest.now ≤ PARAGRAPH_LIMIT }

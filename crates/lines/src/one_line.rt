@@ -1,4 +1,4 @@
-//! A fast path for short paragraphs that fit in one line. To find the line of such a paragraph, neither its
+//! A fast path for short paragraphs that fit on one line. To find the line of such a paragraph, neither its
 //! break marks nor the infos of its characters are needed.
 ghost use Rattle.std.specs.Prelude.{◌≡◌, ◌<◌, ◌≤◌, true, false, length, IfSome};
 ghost use Rattle.lines.specs.OneLine.{IsOneLine};

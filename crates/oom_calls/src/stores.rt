@@ -38,7 +38,7 @@ impl Measured for Item {
     }
 }
 
-// The limit of a store's items.
+// The maximum number of items in a store.
 const LIMIT: usize = 100;
 
 // A replacement: its range, and the names of the new items, of the items before it, and of the items that it

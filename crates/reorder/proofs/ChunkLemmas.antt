@@ -188,7 +188,7 @@ module _ (classes : List BidiClass) (levels : List ℕ) where
         left = λ k above. after k above ∙ w.left k (omega (arith, above, past));
       }
 
-  -- the theorems on L2 and L3, as assumptions about the groups of the line
+  -- the theorems on L2 and L3 are assumed for the groups of the line
   module _ (together : (base n : ℕ) → IsGroup classes levels base n → StandsTogether classes levels base n)
       (others : (k : ℕ) → k < length levels → IsAlone classes levels (get_or (vtol_of false classes levels) k 0)
       → get_or (vtol_of true classes levels) k 0 ≡ get_or (vtol_of false classes levels) k 0)

@@ -228,7 +228,7 @@ Grouped-next test old current ys new start n w within is sizes rest done =
           ∙ w.done;
     }
 
--- the same step, with the rest of the order as a separate list
+-- the same holds if the rest of the order is a separate list
 pub Grouped-part : (test : ℕ → Bool) (old current part ys : List ℕ) (start n : ℕ) → Grouped test old current start → start ≤ length current
     → part ≡ drop start current → length ys ≡ length part → drop n ys ≡ drop n part
     → reverse_with_next test [] part ≡ take n ys ++ reverse_with_next test [] (drop n part)

@@ -47,7 +47,7 @@ mask-drop (suc k) (m ∷ ms) =
     ap (λ n. mask_l (m ∷ ms) / n) (pow-suc 2 k ∙ mul_comm (2 ^ k) 2) ∙ sym (div-div-eq-div-mul (mask_l (m ∷ ms)) 2 (2 ^ k))
     ∙ ap (λ n. n / 2 ^ k) (half m (mask_l ms)) ∙ mask-drop k ms
 
--- the last levels of a list, without some at the front
+-- dropping some of the last 16 levels leaves the levels after them
 last_chunk : (levels : List ℕ) (first k : ℕ) → first + 16 ≡ length levels → k ≤ 16 → drop k (chunk first 16 levels) ≡ chunk (first + k) (16 - k) levels
 last_chunk levels first k last few =
     ap (drop k) (take_all 16 (drop first levels) (omega (arith, length-drop first levels))) ∙ drop-drop k first levels

@@ -26,7 +26,7 @@ module _ (levels : List ℕ) where
       let other : v ≤ level_at l.at = m.all l.at l.from l.to in
       omega (arith, one, other, l.is, m.is)
 
-  -- two ranges that share a character
+  -- the lowest level of two ranges that share a character is the lower of their lowest levels
   pub joined : (a b c u v : ℕ) → a ≤ b → b ≤ c → IsLowest levels a b u → IsLowest levels b c v → IsLowest levels a c (min u v)
   joined a b c u v from to l m =
       let all : (k : ℕ) → a ≤ k → k ≤ c → min u v ≤ level_at k =
@@ -43,7 +43,8 @@ module _ (levels : List ℕ) where
             record { all = all; at = m.at; from = omega (arith, inside); to = m.to; is = m.is ∙ omega arith }
       ]
 
-  -- a range whose lowest level does not occur in its back, or not in its front
+  -- if the lowest level of a range does not occur in its back, it is the lowest level of its front; the same
+  -- holds with front and back exchanged
   pub in_front : (a b c u v : ℕ) → a ≤ b → IsLowest levels a c u → IsLowest levels b c v → u < v → IsLowest levels a b u
   in_front a b c u v from l m less =
       let last : l.at ≤ c = l.to in
@@ -175,7 +176,7 @@ module _ (levels : List ℕ) where
         odd = min_is true other.low one.low other.odd one.odd;
       })
 
-  -- x is before y, and z is before y but to its right
+  -- x is to the left of z if x is before y and to its left, and z is before y but to its right
   kept_turned : (x y z : ℕ) → IsKept levels is_odd x y → IsTurned levels is_odd y z → IsLeft levels x z
   kept_turned x y z one other =
       let h : x < y = one.before in
@@ -201,7 +202,7 @@ module _ (levels : List ℕ) where
             })
       ]
 
-  -- x is after y but to its left, and z is after y
+  -- x is to the left of z if x is after y but to its left, and z is after y and to its right
   turned_kept : (x y z : ℕ) → IsTurned levels is_odd x y → IsKept levels is_odd y z → IsLeft levels x z
   turned_kept x y z one other =
       let h : y < x = one.after in

@@ -74,7 +74,7 @@ module _ (R : ℕ → ℕ → Type 0) where
             subst (λ (ys : List ℕ). Sorted R ys) (sym (cond-false (test x) (x ∷ filter test xs) (filter test xs) off)) (Sorted-filter test xs sorted.1)
       ]
 
-  -- a list of items with P, reversed
+  -- if reversing two items with P turns their order around, reversing a sorted list of such items sorts it
   pub Sorted-reverse : (S : ℕ → ℕ → Type 0) (P : ℕ → Type 0) → ((x y : ℕ) → P x → P y → R x y → S y x) → (xs : List ℕ) → EachOf P xs → Sorted R xs
       → Sorted S (reverse xs)
   Sorted-reverse S P follows [] each sorted = tt
@@ -164,7 +164,7 @@ module _ (levels : List ℕ) where
       let is : get_or (range_with_len a n) j d ≡ a + j = get_or-range_with_len a n j d short in
       (omega (arith, is), omega (arith, is, short))))
 
-  -- a range in which no level changes the order
+  -- a range in which no level changes the order is sorted
   ascending : (flips : ℕ → Bool) → ((s : ℕ) → flips (level_at s) ≡ false) → (a n : ℕ) → Sorted (IsLeftBy levels flips) (range_with_len a n)
   ascending flips none a zero = tt
   ascending flips none a (suc n) = (after n (a + 1) (omega arith), ascending flips none (a + 1) n)
@@ -178,7 +178,7 @@ module _ (levels : List ℕ) where
       after zero b less = tt
       after (suc m) b less = (kept b less, after m (b + 1) (omega arith))
 
-  -- one more level
+  -- ---- one more level
   module _ (k c : ℕ) (inner : (a n : ℕ) → Sorted (IsLeftBy levels (turns (suc k))) (reversed_from levels (suc k) c (range_with_len a n))) where
     flipped : (a n : ℕ) → ((j : ℕ) → a ≤ j → j < a + n → k ≤ level_at j) → (x y : ℕ) → (a ≤ x) × (x < a + n) → (a ≤ y) × (y < a + n)
         → IsLeftBy levels (turns (suc k)) x y → IsLeftBy levels (turns k) y x
@@ -197,7 +197,7 @@ module _ (levels : List ℕ) where
         let next : suc turned.low - k ≡ suc turned.low - suc k + 1 = omega (arith, least, turned.lowest.is) in
         inl (record { before = after; low = turned.low; lowest = turned.lowest; even = ap is_odd next ∙ odd_next (suc turned.low - suc k) turned.odd })
 
-    -- all characters of the range are reversed
+    -- reversing a range whose levels are all at least k sorts it
     whole : (a n : ℕ) → ((j : ℕ) → a ≤ j → j < a + n → k ≤ level_at j) → Sorted (IsLeftBy levels (turns k)) (reversed_from levels k (suc c) (range_with_len a n))
     whole a n high =
         let items : List ℕ = reversed_from levels (suc k) c (range_with_len a n) in

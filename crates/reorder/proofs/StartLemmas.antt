@@ -74,7 +74,7 @@ module _ (levels : List ℕ) where
       ∙ next_from x next ys sorted.1 has later right each.1
       ∙ ap (λ (zs : List ℕ). x ∷ zs) (sym (later_from next y ys apart))
 
-  -- the item that is to the right of all others
+  -- there are no items to the right of the item that is to the right of all others
   last_from : (x : ℕ) (ys : List ℕ) → Sorted (IsLeft levels) ys → Has x ys → EachOf (λ y. y ≢ x → IsLeft levels y x) ys → items_from x ys ≡ x ∷ []
   last_from x [] sorted has each = absurd has
   last_from x (y ∷ []) sorted (inl same) each = subst (λ k. items_from x (k ∷ []) ≡ x ∷ []) (sym same) (first_from x [])

@@ -185,7 +185,7 @@ module _ (levels : List ℕ) where
       ∙ ap (λ (ys : List ℕ). ys ++ filter begins (flat_map (run_shown levels) xs)) (one_shown s each.0)
       ∙ ap (λ (ys : List ℕ). s ∷ ys) (starts_in xs each.1)
 
-  -- the runs in logical order
+  -- ---- the runs in logical order
   next_begins : (s t : ℕ) → end_of s ≡ t → t < length levels → begins t ≡ true
   next_begins s zero e short = absurd (omega arith)
   next_begins s (suc t) e short =
@@ -223,7 +223,7 @@ module _ (levels : List ℕ) where
       ap (λ k. flat_map (run_at levels) (filter begins (range_with_len 0 k))) (sym n)
       ∙ in_pieces (length levels) 0 (omega arith) (omega arith) (λ some. refl) ∙ ap (range_with_len 0) n
 
-  -- the runs in visual order
+  -- ---- the runs in visual order
   abbrev starts : List ℕ
   starts = turned levels (filter begins (places levels))
 

@@ -12,17 +12,18 @@ hebrew_in_latin : runs_of (0 ∷ 0 ∷ 0 ∷ 0 ∷ 1 ∷ 1 ∷ 1 ∷ 0 ∷ 0 ∷
 unfolding runs_of order_of
 hebrew_in_latin = refl
 
--- the same, right to left: the Hebrew letters are between the Latin words, the second of which is on the left
+-- the same text from right to left: the Hebrew letters are between the Latin words, and the second word is on
+-- the left
 right_to_left : runs_of (2 ∷ 2 ∷ 2 ∷ 1 ∷ 1 ∷ 1 ∷ 1 ∷ 1 ∷ 2 ∷ 2 ∷ 2 ∷ []) ≡ run 8 3 2 ∷ run 3 5 1 ∷ run 0 3 2 ∷ []
 unfolding runs_of order_of
 right_to_left = refl
 
--- a number in Hebrew, in Latin
+-- a number in Hebrew text, which is in Latin text
 number : runs_of (0 ∷ 1 ∷ 1 ∷ 2 ∷ 2 ∷ 1 ∷ 0 ∷ []) ≡ run 0 1 0 ∷ run 5 1 1 ∷ run 3 2 2 ∷ run 1 2 1 ∷ run 6 1 0 ∷ []
 unfolding runs_of order_of
 number = refl
 
--- two runs at level 2 with one at level 4 between them, in one at level 1
+-- a run at level 4 between two at level 2, all inside a run at level 1
 nested : runs_of (1 ∷ 2 ∷ 4 ∷ 2 ∷ 3 ∷ 1 ∷ []) ≡ run 5 1 1 ∷ run 1 1 2 ∷ run 2 1 4 ∷ run 3 1 2 ∷ run 4 1 3 ∷ run 0 1 1 ∷ []
 unfolding runs_of order_of
 nested = refl

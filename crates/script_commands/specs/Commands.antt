@@ -207,7 +207,7 @@ query_in line =
     (by_word (stripped (codes "size") line) (with_none ask.Size)
     (by_word (stripped (codes "text ") line) (with_two ask.Text) (offset_query_in line)))))))
 
--- if queries are allowed, a line that is no other command may be a query
+-- if queries are allowed, a line that is not another command may be a query
 abbrev pub or_query : Option Command → Option Query → Option Command
 or_query (Some command) query = Some command
 or_query None query = option_map Ask query

@@ -17,7 +17,7 @@ range_more k =
     sym (map-id (range_with_len 0 (k + 1))) ∙ map-range_with_len_more (λ i. i) 0 k k (omega arith)
     ∙ ap (λ (front : List ℕ). front ++ k ∷ []) (map-id (range_with_len 0 k))
 
--- one more position, by whether a run begins there
+-- ---- one more position, by whether a run begins there
 module _ (scripts : List Script) (k : ℕ) where
   more : runs_before scripts (k + 1) ≡ runs_before scripts k ++ map (run_from scripts) (filter (begins_run scripts) (k ∷ []))
   more =

@@ -55,7 +55,7 @@ module _ (more : List ℕ) where
       ap (λ (b : Bool). if x == 0x9C || (is_osc && x == 0x07) then 1 else (if b && slice_index more 0 == 0x5C then 2 else 0)) no
       ∙ sym (ap (λ (b : Bool). if x == 0x9C || (is_osc && x == 0x07) then 1 else (if b && 0 == 0x5C then 2 else 0)) no)
 
-  -- the end of a string does not change
+  -- appending more text does not change the end of a string
   terminator_kept : (is_osc : Bool) (text : List ℕ) → (terminator_len is_osc text == 0) ≡ false → terminator_len is_osc (text ++ more) ≡ terminator_len is_osc text
   terminator_kept is_osc [] some = absurd (none (and_right is_osc false refl))
     where

@@ -5,7 +5,7 @@ use Rattle.sequences.specs.Parts.{fields_after, first_len, parameters_after}
 use Rattle.sequences.specs.declared.look.Look.{Look}
 use Rattle.sequences.proofs.PartLemmas.{parameters-first}
 
--- a parameter that belongs to the one before it
+-- skipping a parameter that belongs to the one before it leaves the look unchanged
 pub skip_parameter : (skip : ℕ) (look : Look) (text rest : List ℕ) → 0 < skip → 0 < length text → rest ≡ drop (first_len 0x3B text) text
     → applied_after (skip - 1) look (parameters_after rest) ≡ applied_after skip look (parameters_after text)
 skip_parameter zero look text rest more some e = absurd (omega arith)
@@ -13,7 +13,7 @@ skip_parameter (suc skip) look text rest more some e =
     ap (λ n. applied_after n look (parameters_after rest)) (sub-one (suc skip)) ∙ ap (λ t. applied_after skip look (parameters_after t)) e
     ∙ ap (applied_after (suc skip) look) (sym (parameters-first text some))
 
--- a parameter that is not a value of an earlier one
+-- a parameter that is not a value of an earlier one is applied
 pub apply_parameter : (skip : ℕ) (look : Look) (text first rest : List ℕ) → skip ≤ 0 → 0 < length text
     → first ≡ take (first_len 0x3B text) text → rest ≡ drop (first_len 0x3B text) text
     → applied_after (taken (fields_after first) (parameters_after rest)) (changed look (fields_after first) (parameters_after rest)) (parameters_after rest)

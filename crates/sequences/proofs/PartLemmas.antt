@@ -24,13 +24,13 @@ module _ (separator : ℕ) where
             slice_split-cons_no ends x xs other ∙ ap (onto_first x) (split_first xs) ∙ ap (λ n. take n (x ∷ xs) ∷ parts_after separator (drop n (x ∷ xs))) (sym e))
       ]
 
-  -- the first part, and the others
+  -- the parts of a text are its first part and the parts of the rest
   pub parts_after-first : (text : List ℕ) → 0 < length text
       → parts_after separator text ≡ drop 1 (take (first_len separator text) text) ∷ parts_after separator (drop (first_len separator text) text)
   parts_after-first [] some = absurd (omega arith)
   parts_after-first (c ∷ text) some = split_first text
 
-  -- the parts that are left after the first one
+  -- the parts of the rest of a text are its parts without the first one
   pub parts_after_drop : (text : List ℕ) → parts_after separator (drop (first_len separator text) text) ≡ drop 1 (parts_after separator text)
   parts_after_drop [] = refl
   parts_after_drop (c ∷ text) = ap (drop 1) (sym (parts_after-first (c ∷ text) (omega arith)))
@@ -50,7 +50,7 @@ drop-map zero parts = refl
 drop-map (suc k) [] = refl
 drop-map (suc k) (part ∷ parts) = drop-map k parts
 
--- the fields of the first parameter
+-- the first parameter has the fields of the text up to the first semicolon
 pub first_fields : (text : List ℕ) → value (map single (parameters_after text)) 0 ≡ single (fields_after (take (first_len 0x3B text) text))
 first_fields [] = refl
 first_fields (c ∷ text) = ap (λ parts. value (map single (map fields parts)) 0) (split_first 0x3B text)
@@ -69,7 +69,7 @@ value_at f rest parts k e = value-drop f parts k ∙ ap (λ xs. value (map f xs)
 pub single_at : (rest parts : List (List ℕ)) (k : ℕ) → rest ≡ drop k parts → value (map single (map fields parts)) k ≡ value (map single (map fields rest)) 0
 single_at rest parts k e = value-drop single (map fields parts) k ∙ ap (λ xs. value (map single xs) 0) (drop-map k parts ∙ ap (map fields) (sym e))
 
--- the first parameter of a text, and the others
+-- the parameters of a text are its first parameter and those of the rest
 pub parameters-first : (text : List ℕ) → 0 < length text
     → parameters_after text ≡ fields_after (take (first_len 0x3B text) text) ∷ parameters_after (drop (first_len 0x3B text) text)
 parameters-first [] some = absurd (omega arith)

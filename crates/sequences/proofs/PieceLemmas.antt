@@ -79,7 +79,7 @@ module _ (c : ℕ) (kept : is_dropped c ≡ false) (outer : is_inline c ≡ fals
   drop_whole : (one text : List ℕ) (n : ℕ) → n ≤ length text → drop n (text ++ c ∷ one) ≡ drop n text ++ c ∷ one
   drop_whole one text n le = drop-append-le n text (c ∷ one) le
 
-  -- control sequences
+  -- ---- control sequences
   csi_end_within : (one text : List ℕ) → csi_end (text ++ c ∷ one) ≤ length text
   csi_end_within one text =
       let n = prefix_len is_parameter (text ++ c ∷ one) in
@@ -107,7 +107,7 @@ module _ (c : ℕ) (kept : is_dropped c ≡ false) (outer : is_inline c ≡ fals
   ended_same p one two text n m le e =
       ap (λ (d : ℕ). ended p d n) (index_same one two text n le) ∙ ap (λ (k : ℕ). ended p (slice_index (text ++ c ∷ two) k) k) e
 
-  -- a length after which the text up to `c` is not over
+  -- whether a length, if there is one, ends at or before `c`
   abbrev IsWithin : ℕ → Option ℕ → Type 0
   IsWithin n found = MatchOption found ⊤ (λ len. len ≤ n)
 
@@ -122,7 +122,7 @@ module _ (c : ℕ) (kept : is_dropped c ≡ false) (outer : is_inline c ≡ fals
   csi_len_within : (one text : List ℕ) → IsWithin (length text) (csi_len (text ++ c ∷ one))
   csi_len_within one text = ended_within is_csi_final no_csi_final one text _ (csi_end_within one text)
 
-  -- escape sequences
+  -- ---- escape sequences
   escape_len_same : (one two text : List ℕ) → escape_len (text ++ c ∷ one) ≡ escape_len (text ++ c ∷ two)
   escape_len_same one two text =
       ended_same is_escape_final one two text _ _ (prefix_within one is_intermediate no_intermediate text) (prefix_same one two is_intermediate no_intermediate text)
@@ -130,7 +130,7 @@ module _ (c : ℕ) (kept : is_dropped c ≡ false) (outer : is_inline c ≡ fals
   escape_len_within : (one text : List ℕ) → IsWithin (length text) (escape_len (text ++ c ∷ one))
   escape_len_within one text = ended_within is_escape_final no_escape_final one text _ (prefix_within one is_intermediate no_intermediate text)
 
-  -- strings
+  -- ---- strings
   terminator_none : (is_osc : Bool) (one : List ℕ) → terminator_len is_osc (c ∷ one) ≡ 0
   terminator_none is_osc one =
       cond-false (c == 0x9C || (is_osc && c == 0x07)) 1 _
@@ -206,7 +206,7 @@ module _ (c : ℕ) (kept : is_dropped c ≡ false) (outer : is_inline c ≡ fals
       cond_both (nat_lt LONGEST_STRING n) (Some (n + long)) _ (IsWithin (length text)) (λ _. omega (arith, passed, length-drop n text))
       (λ _. cond_both (terminator == 0) None (Some (n + terminator)) (IsWithin (length text)) (λ _. tt) (λ _. omega (arith, ended, length-drop n text)))
 
-  -- all sequences, after ESC
+  -- ---- all sequences, after ESC
   suc_within : (n : ℕ) (found : Option ℕ) → IsWithin n found → IsWithin (suc n) (option_map suc found)
   suc_within n None within = tt
   suc_within n (Some len) within = omega arith
@@ -250,7 +250,7 @@ module _ (c : ℕ) (kept : is_dropped c ≡ false) (outer : is_inline c ≡ fals
       cond_both (x == 0x1B) _ _ (IsWithin (suc (length text))) (λ _. suc_within (length text) _ (len_after_escape_within one text))
       (λ _. cond_both (is_c1_introducer x) _ _ (IsWithin (suc (length text))) (λ _. len_after_escape_within one ((x - 0x40) ∷ text)) (λ _. tt))
 
-  -- what sequences do
+  -- ---- what sequences do
   take_whole : (one text : List ℕ) (n : ℕ) → n ≤ length text → take n (text ++ c ∷ one) ≡ take n text
   take_whole one text n le = take-append-le n text (c ∷ one) le
 
@@ -291,7 +291,7 @@ module _ (c : ℕ) (kept : is_dropped c ≡ false) (outer : is_inline c ≡ fals
       go true = after_sequence_same pen one two text
       go false = after_sequence_same pen one two ((x - 0x40) ∷ text)
 
-  -- overstrikes
+  -- ---- overstrikes
   backspaces_none : (one : List ℕ) → after_backspaces (c ∷ one) ≡ []
   backspaces_none one = no_backspaces c one kept
 
@@ -316,7 +316,7 @@ module _ (c : ℕ) (kept : is_dropped c ≡ false) (outer : is_inline c ≡ fals
   strikes_within one x text =
       cond_both (is_inline x) (after_backspaces (text ++ c ∷ one)) [] (λ xs. 2 * length xs ≤ length text) (λ _. backspaces_within one text) (λ _. omega arith)
 
-  -- the first part of a text
+  -- ---- the first part of a text
   abbrev place_of : Pen → ℕ → List ℕ → Struck
   place_of pen x xs = fold (strike pen.after_underline) (record { shown = x; bold = false; underlined = false }) xs
 
@@ -351,7 +351,7 @@ module _ (c : ℕ) (kept : is_dropped c ≡ false) (outer : is_inline c ≡ fals
   after_first_part_same pen one two x text =
       ap (after_part pen x (text ++ c ∷ one)) (sequence_len_same one two x text) ∙ after_part_same pen one two x text (sequence_len (x ∷ (text ++ c ∷ two)))
 
-  -- at `c` itself
+  -- ---- at `c` itself
   strikes_none : (rest : List ℕ) → strikes c rest ≡ []
   strikes_none rest = cond-false (is_inline c) (after_backspaces rest) [] outer
 

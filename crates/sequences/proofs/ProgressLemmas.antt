@@ -64,7 +64,7 @@ zero_add n = omega arith
 suc_add : (a b : ℕ) → suc (a + b) ≡ suc a + b
 suc_add a b = omega arith
 
--- the length of a prefix whose first character has a property
+-- a prefix is one longer if its first character passes
 one_more_in : (b : Bool) (n : ℕ) → b ≡ true → (if b then 1 + n else 0) ≡ suc n
 one_more_in b n e = cond-true b (1 + n) 0 e ∙ suc_is
   where

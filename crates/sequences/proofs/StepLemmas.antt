@@ -40,7 +40,7 @@ pub pen_at_end-part : (pen : Pen) (c : ℕ) (text : List ℕ)
 unfolding pen_at_end
 pen_at_end-part pen c text = pen_after-skip (more_len c text) (after_first_part pen c text) text
 
--- a step over the first part, from what was shown before
+-- after a step over the first part, what was shown and what the rest shows are still what the text shows
 pub step_text : (pen next : Pen) (before after : List (ℕ × Style)) (c : ℕ) (rest text : List ℕ) (len : ℕ) → text ≡ c ∷ rest → len ≡ suc (more_len c rest)
     → after ≡ before ++ first_shown pen c rest → next ≡ after_first_part pen c rest → after ++ styled next (drop len text) ≡ before ++ styled pen text
 step_text pen next before after c rest text len t l a n =
@@ -65,7 +65,7 @@ end_text pen shown all text at end e =
 pub end_pen : (pen last : Pen) (text : List ℕ) (at : ℕ) → length text ≤ at → pen_at_end pen (drop at text) ≡ last → pen ≡ last
 end_pen pen last text at end e = sym (pen_at_end-none pen) ∙ ap (pen_at_end pen) (sym (drop_of_length-le text end)) ∙ e
 
--- a character that nothing is struck over
+-- a character that nothing is struck over changes the pen as `plain_step` does
 after_first_part-plain : (pen : Pen) (c : ℕ) (text : List ℕ) → is_dropped c ≡ false → after_backspaces text ≡ [] → after_first_part pen c text ≡ plain_step pen
 after_first_part-plain pen c text e none =
     ap (after_part pen c text) (no_sequence c text e) ∙ cond-false (is_dropped c) pen (after_character pen c text) e
@@ -113,7 +113,7 @@ pub plain_pen-run : (pen : Pen) (run : List ℕ) → 0 < length run → plain_pe
 plain_pen-run pen [] some = absurd (omega arith)
 plain_pen-run pen (c ∷ run) some = plain_pen-some pen c run
 
--- a step over such characters, from what was shown before
+-- the same holds after a step over such characters
 pub plain_step_text : (pen next : Pen) (before after : List (ℕ × Style)) (text : List ℕ) (n : ℕ) → list_all (λ c. not (is_dropped c)) (take n text) ≡ true
     → after_backspaces (drop n text) ≡ [] → after ≡ before ++ map (λ c. (c, pen.style)) (take n text) → next ≡ plain_pen pen (take n text)
     → after ++ styled next (drop n text) ≡ before ++ styled pen text
@@ -132,7 +132,7 @@ plain_step_pen pen next text n e none p =
     ap (λ (q : Pen). pen_after 0 q (drop n text)) p ∙ sym (plain_run-pen pen (take n text) (drop n text) e none)
     ∙ ap (pen_after 0 pen) (take-append-drop n text)
 
--- the characters at the start of a text that pass a test
+-- all characters of a prefix that is no longer than the longest passing one pass the test
 pub prefix_all : (p : ℕ → Bool) (text : List ℕ) (n : ℕ) → n ≤ prefix_len p text → list_all p (take n text) ≡ true
 prefix_all p text zero le = refl
 prefix_all p [] (suc n) le = refl

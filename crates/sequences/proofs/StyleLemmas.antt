@@ -20,7 +20,7 @@ last_split xs x some e =
     ∙ ap (λ y. take (length xs - 1) xs ++ y ∷ []) (sym e)
 
 module _ (links : List ℕ) where
-  -- the style after one more run
+  -- one more run sets the style from its start on
   style_at-push : (style : Style) (runs : List StyleRun) (run : StyleRun) (k : ℕ)
       → style_at links style (runs ++ run ∷ []) k ≡ (if nat_le run.start k then style_in links run else style_at links style runs k)
   style_at-push style [] run k = refl
@@ -67,7 +67,7 @@ module _ (links : List ℕ) where
   style_at-none [] n e = refl
   style_at-none (run ∷ runs) n e = absurd (omega arith)
 
-  -- one more character, after the run for it was started
+  -- one more character, appended after the run for it was started, has the style of the run
   pub push_is : (runs : List StyleRun) (characters more : List ℕ) (c : ℕ) (style : Style) (before : List (ℕ × Style)) → more ≡ characters ++ c ∷ []
       → style_at links DEFAULT runs (length characters) ≡ style → with_styles links runs 0 characters ≡ before
       → with_styles links runs 0 more ≡ before ++ (c, style) ∷ []
@@ -106,7 +106,7 @@ module _ (links : List ℕ) where
       (with_styles-append runs (k + 1) characters more
       ∙ ap (λ n. with_styles links runs (k + 1) characters ++ with_styles links runs n more) (let e : k + 1 + length characters ≡ k + length (c ∷ characters) = omega arith in e))
 
-  -- more characters in one style, after the run for it was started
+  -- more characters, appended after the run for them was started, all have the style of the run
   pub push_all_is : (runs : List StyleRun) (characters more all : List ℕ) (style : Style) (before : List (ℕ × Style)) → all ≡ characters ++ more
       → All (λ run. run.start ≤ length characters) runs → style_at links DEFAULT runs (length characters) ≡ style → with_styles links runs 0 characters ≡ before
       → with_styles links runs 0 all ≡ before ++ map (λ c. (c, style)) more

@@ -16,7 +16,7 @@ typed c = if c == 94 then 27 else (if c == 60 then 8 else (if c == 126 then 7 el
 abbrev text_of : List ℕ → List ℕ
 text_of text = map typed text
 
--- the length of a complete sequence
+-- a complete sequence has a length, and an incomplete or malformed one has none
 csi : sequence_len (text_of (codes "^[31mx")) ≡ Some 5
 csi = refl
 

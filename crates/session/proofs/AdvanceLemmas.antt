@@ -42,7 +42,7 @@ front_after k n (Some xs) None e = absurd (cc e)
 front_after k n (Some xs) (Some ys) e =
     ap Some (sym (drop-take k n xs) ∙ ap (drop k) (same_Some (take (k + n) xs) (take (k + n) ys) e) ∙ drop-take k n ys)
 
--- the two parts of advances that are for each character of a text
+-- if there is an advance for each character of a text, the same holds for each of its two parts
 pub for_front : (first after : List ℕ) (advances : Option (List ℕ)) → AreForEach advances (first ++ after) → AreForEach (front_advances (length first) advances) first
 for_front first after None each = tt
 for_front first after (Some list) each = length-take-le (length first) list (omega (arith, each, length-append first after))
@@ -157,7 +157,7 @@ room-append list (p ∷ ps) qs =
 
 -- ---- the middle of a list of advances is replaced
 
--- paragraphs of a text on both sides of some that are replaced
+-- ---- paragraphs of a text on both sides of some that are replaced
 module _ (rules : Rules) (width : ℕ) (left mid right : List (List ℕ)) (new : List (List ℕ)) (front inner back fresh : List ℕ)
     (in_front : length front ≡ length (concat left)) (in_mid : length inner ≡ length (concat mid)) (in_new : length fresh ≡ length (concat new)) where
   abbrev old : List ℕ
@@ -185,7 +185,8 @@ module _ (rules : Rules) (width : ℕ) (left mid right : List (List ℕ)) (new :
       ∙ take_at fresh back (length (concat new)) in_new
       ∙ sym (take_all (length (concat new)) fresh (omega (arith, in_new)))
 
-  -- the layouts of the new text: those on both sides stay
+  -- the layouts of the new text are the old ones on both sides, and the fresh ones of the new paragraphs
+  -- between them
   pub layouts-middle : layouts_from rules width (Some after) (left ++ (new ++ right))
       ≡ layouts_from rules width (Some old) left ++ (layouts_from rules width (Some fresh) new ++ layouts_from rules width (Some back) right)
   layouts-middle =
@@ -221,7 +222,7 @@ module _ (rules : Rules) (width : ℕ) (left mid right : List (List ℕ)) (new :
       and_true true = refl
       and_true false = refl
 
--- the advances with which a text is opened
+-- the advances with which a text is opened begin with those with which its first part is opened
 pub first_front : (is_measured : Bool) (first after : List ℕ) → front_advances (length first) (first_advances is_measured (length (first ++ after))) ≡ first_advances is_measured (length first)
 first_front false first after = refl
 first_front true first after =

@@ -46,7 +46,7 @@ pub text_read : (kept : List Layout) (i : ℕ) (read : Option Layout) → read �
 text_read kept i read e =
     sym (unwrap_or-slice_get (pars_of kept) i []) ∙ ap (λ o. unwrap_or o []) (slice_get-map (λ l. l.text) kept i) ∙ ap (λ o. unwrap_or (option_map (λ l. l.text) o) []) (sym e)
 
--- the same of its advances
+-- the advances of paragraph i are those of the layout that was read at index i
 pub list_read : (kept : List Layout) (i : ℕ) (read : Option Layout) → read ≡ slice_get kept i
     → get_or (advance_lists kept) i [] ≡ unwrap_or (option_map (λ (l : Layout). unwrap_or l.advances []) read) []
 list_read kept i read e =

@@ -38,7 +38,7 @@ chained f (Some x) y is = (x, refl, is)
 end_within : (n : ℕ) (line : Visual) → (line_end n line).column ≤ line.columns
 end_within n line = elim (is_odd line.base) as (λ b. (if b then 0 else line.columns) ≤ line.columns) [ true ↦ omega arith | false ↦ omega arith ]
 
--- the same bound for a choice between two carets on one line
+-- the same bound holds for a choice between two carets on one line
 either : (b : Bool) (x y : Caret) (n width : ℕ) → x.line ≡ n → y.line ≡ n → (b ≡ true → x.column ≤ width) → (b ≡ false → y.column ≤ width)
     → let caret : Caret = if b then x else y in (caret.line ≡ n) × (caret.column ≤ width)
 either true x y n width one other here there = (one, here refl)
@@ -50,7 +50,7 @@ in_within line place fits =
     either (nat_lt place.offset (length line.levels)) caret (line_end place.line line) place.line line.columns refl refl
     (λ _. omega (arith, fits, left_most line (if is_odd (get_or line.levels place.offset 0) then get_or line.ltov place.offset 0 + 1 else get_or line.ltov place.offset 0))) (λ _. end_within place.line line)
 
--- the line of a caret on a side of a character
+-- a caret on a side of a character is on the line of this character
 pub beside_line : (side : Side) (other : Visual) (place : Place) (from : ℕ) (cluster : Cluster) → (caret_beside side place.line other from place.offset cluster).line ≡ place.line
 beside_line side other place from cluster =
     elim (nat_lt place.offset (length other.levels)) as (λ b. (if b then (record { line = place.line; column = column_on side other from cluster place.offset; level = get_or other.levels place.offset 0 }) else line_end place.line other).line ≡ place.line) [
@@ -77,14 +77,15 @@ module _ (rules : Rules) (kept : List Layout) (clusters : AllClusters kept) (car
       either_line : (other : Visual) (place : Place) → (caret_in other place).line ≡ place.line
       either_line other place = elim (nat_lt place.offset (length other.levels)) as (λ b. (if b then (record { line = place.line; column = leading_edge other place.offset; level = get_or other.levels place.offset 0 }) else line_end place.line other).line ≡ place.line) [ true ↦ refl | false ↦ refl ]
 
-  -- the edges of a character
+  -- ---- the edges of a character
   leading_edge_within : (k : ℕ) → leading_edge line k ≤ line.columns
   leading_edge_within k = omega (arith, facts.columns, left_most line (if is_odd (get_or line.levels k 0) then get_or line.ltov k 0 + 1 else get_or line.ltov k 0))
 
   trailing_edge_within : (k : ℕ) → trailing_edge line k ≤ line.columns
   trailing_edge_within k = omega (arith, facts.columns, left_most line (if is_odd (get_or line.levels k 0) then get_or line.ltov k 0 else get_or line.ltov k 0 + 1))
 
-  -- the caret after a character of its cluster
+  -- the column of the caret after a character that does not end its cluster is at most the line's number of
+  -- columns
   by_within : (from k : ℕ) (cluster : Cluster) → k < length line.levels → from + k < cluster.end → (o : Option ℕ) → holder line from cluster k ≡ o → column_by line from cluster k o ≤ line.columns
   by_within from k cluster within inside None is = trailing_edge_within k
   by_within from k cluster within inside (Some j) is =
@@ -99,7 +100,7 @@ module _ (rules : Rules) (kept : List Layout) (clusters : AllClusters kept) (car
         | false ↦ trailing_edge_within k
       ]
 
-  -- the caret before a character
+  -- ---- the caret before a character
   leading_within : (level first end : ℕ) → leading_of line level first end ≤ line.columns
   leading_within level first end =
       let place : ℕ = after (greatest (is_in_unit line first end) (length line.vtol)) 0 in
@@ -126,7 +127,7 @@ module _ (rules : Rules) (kept : List Layout) (clusters : AllClusters kept) (car
       (λ shown. on_side_within side from place.offset cluster (ltb-true place.offset (length line.levels) shown) inside)
       (λ _. end_within place.line line)).1
 
-  -- the caret on a side of a character of the text
+  -- the column of the caret on a side of a character of the text is at most the line's number of columns
   of_within : (side : Side) (pos : ℕ) → pos < length (text_of kept) → caret_of kept side pos (place_in kept pos) ≡ Some caret → caret.column ≤ line.columns
   of_within side pos inside drawn =
       let place : Place = place_in kept pos in
@@ -143,7 +144,8 @@ module _ (rules : Rules) (kept : List Layout) (clusters : AllClusters kept) (car
       ap (λ l. caret_beside side place.line l (pos - place.offset) place.offset cluster) (sym same) ∙ held.2 in
       subst (λ (c : Caret). c.column ≤ line.columns) is (beside_within side place (pos - place.offset) cluster (omega arith))
 
-  -- the caret at the end of the text
+  -- the column of the caret at any position, including the end of the text, is at most the line's number of
+  -- columns
   at_within : (pos : ℕ) → caret_at rules kept pos ≡ Some caret → caret.column ≤ line.columns
   at_within pos drawn =
       let found = mapped (λ (place : Place). caret_on rules (slice_get (lines_in kept) place.line) place) (place_at rules kept pos) caret drawn in

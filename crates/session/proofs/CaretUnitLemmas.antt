@@ -169,7 +169,7 @@ module _ (line : Visual) (ordered : IsOrdered line) (start : ℕ) (cluster : Clu
           | inr other ↦ found.passes (omega arith)
         ]
 
-    -- where the unit ends
+    -- what is known about the end of the unit
     record Ends : Type 0 where
       above : k < to_end k
       within : to_end k ≤ last_shown
@@ -279,7 +279,7 @@ module _ (line : Visual) (ordered : IsOrdered line) (start : ℕ) (cluster : Clu
         let ends = and_parts (nat_le (from_start k) j) (nat_lt j (to_end k)) parts.0 in
         member j (leb-true (from_start k) j ends.0) (ltb-true j (to_end k) ends.1) parts.1
 
-    -- the last character that belongs to the unit
+    -- the unit has a last character that takes columns
     pub last_member : (m : ℕ) × (k ≤ m) × IsLast (takes_columns line) (to_end k) m
     last_member = last_from (takes_columns line) (to_end k) k end_above held.takes
 
@@ -322,7 +322,7 @@ module _ (line : Visual) (ordered : IsOrdered line) (start : ℕ) (cluster : Clu
         between_same line (from_start k) (suc m) (to_end k) (omega (arith, start_first.to, after_k)) last.below (omega (arith, end_within, ordered.text))
         (λ c above under. last.fails c above under)
 
-    -- the character that covers column `o`, counted from the unit's leading edge
+    -- a character of the unit covers column `o`, counted from the unit's leading edge
     owner_of : (o : ℕ) → o < wide (to_end k) → (j : ℕ) × IsMember line start cluster k j × (wide j ≤ o) × (o < wide (suc j))
     owner_of o below =
         let at : from_start k + (to_end k - from_start k) ≡ to_end k = omega (arith, start_first.to, end_above) in
@@ -334,7 +334,7 @@ module _ (line : Visual) (ordered : IsOrdered line) (start : ℕ) (cluster : Clu
         let has : 0 < width_at line j = omega (arith, found.3, found.4, between_more line (from_start k) j from size) in
         (j, member j from to (takes_if line j size has), found.3, found.4)
 
-    -- the rightmost of the unit's characters
+    -- one of the unit's characters is the rightmost
     rightmost : (m : ℕ) → IsMember line start cluster k m
         → (j : ℕ) × IsMember line start cluster k j × (next_at m ≤ next_at j) × (columns_left line (after (greatest is_of_unit (length line.vtol)) 0) ≡ next_at j)
     rightmost m own =
@@ -353,7 +353,7 @@ module _ (line : Visual) (ordered : IsOrdered line) (start : ℕ) (cluster : Clu
           ap (λ (o : Option ℕ). columns_left line (after o 0)) (greatest_is is_of_unit (length line.vtol) place last) ∙ sym there,
         )
 
-    -- the unit's characters are next to each other from left to right
+    -- ---- the unit's characters, if they are next to each other from left to right
     module _ (at : (j : ℕ) → IsMember line start cluster k j → left_at j ≡ left_at (from_start k) + wide j)
         (left_is : left_of (unit_of line start cluster k) ≡ left_at (from_start k))
         (right_is : right_of (unit_of line start cluster k) ≡ left_at (from_start k) + wide (to_end k)) where
@@ -408,7 +408,7 @@ module _ (line : Visual) (ordered : IsOrdered line) (start : ℕ) (cluster : Clu
           ∙ cond-true (is_odd (level_at line k)) (lead - wide (to_end k)) (lead + wide (to_end k)) odd
           ∙ ap (λ n. n - wide (to_end k)) (sym (cond-true (is_odd (level_at line k)) lead (unit_of line start cluster k).trailing odd))
 
-      -- from right to left: the first character is the rightmost one
+      -- ---- from right to left: the first character is the rightmost one
       module _ (adjoin : OddAdjoins line) where
         odd_at : (j : ℕ) → IsMember line start cluster k j → next_at j + wide j ≡ next_at (from_start k)
         odd_at j is = adjoin (from_start k) j (in_one_run j is) (ap is_odd start_level ∙ odd)
@@ -440,7 +440,7 @@ module _ (line : Visual) (ordered : IsOrdered line) (start : ℕ) (cluster : Clu
               (j, is, omega (arith, to, first_right, odd_at j is, found.3, has.0, has.1), omega (arith, to, first_right, odd_at j is, found.2));
         }
 
-      -- from left to right: its last character is the rightmost one
+      -- ---- from left to right: the last character is the rightmost one
       module _ (at : (j : ℕ) → IsMember line start cluster k j → left_at j ≡ left_at (from_start k) + wide j) where
         last_right : right_of (unit_of line start cluster k) ≡ left_at (from_start k) + wide (to_end k)
         last_right =

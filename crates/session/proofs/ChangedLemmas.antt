@@ -42,7 +42,7 @@ first_of (l ∷ ks) x is = elim (cases_lt 0 (length (visuals l))) [
       first_of ks x (sym (ap (λ vs. slice_get (vs ++ lines_in ks) 0) empty) ∙ is)
 ]
 
--- the lines before a paragraph, those of the paragraph, and those after it
+-- the lines of all paragraphs are those before a paragraph, its own, and those after it
 split : (ks : List Layout) (i : ℕ) (l : Layout) → i < length ks → get_or ks i l ≡ l → lines_in ks ≡ lines_in (take i ks) ++ (visuals l ++ lines_in (drop (i + 1) ks))
 split ks i l below item =
     ap lines_in (sym (take-append-drop i ks) ∙ ap (λ (r : List Layout). take i ks ++ r) (drop_more ks i l below ∙ ap (λ (x : Layout). x ∷ drop (i + 1) ks) item))
@@ -137,7 +137,7 @@ module _ (old new : List Layout) where
       (subst (λ ys. MatchAtEnd (lines_in (take a old) ++ lines_in (drop a old)) ys (0 + length (lines_in (drop a old))))
       (ap (λ zs. lines_in (take b new) ++ zs) so_far.same ∙ sym (both_parts new b)) m))
 
-  -- one more pair of paragraphs, from the start
+  -- ---- one more pair of paragraphs, from the start
   module _ (i count : ℕ) (so_far : StartSoFar i count) (o w : Layout) (in_old : i < length old) (in_new : i < length new)
       (old-is : get_or old i o ≡ o) (new-is : get_or new i w ≡ w) (m : Matching) (pair : MatchingAtStart o w m) where
     pub start_within : count + m.count ≤ length (lines_in old)
@@ -175,7 +175,7 @@ module _ (old new : List Layout) where
         (subst (λ ys. MatchAtStart (lines_in (take i old) ++ (visuals o ++ lines_in (drop (i + 1) old))) ys (length (lines_in (take i old)) + m.count))
         (ap (λ zs. zs ++ (visuals w ++ lines_in (drop (i + 1) new))) so_far.same ∙ sym (split new i w in_new new-is)) after))
 
-  -- one more pair of paragraphs, from the end
+  -- ---- one more pair of paragraphs, from the end
   module _ (i count : ℕ) (so_far : EndSoFar i count) (o w : Layout) (in_old : i < length old) (in_new : i < length new)
       (old-is : get_or old (length old - i - 1) o ≡ o) (new-is : get_or new (length new - i - 1) w ≡ w) (m : Matching) (pair : MatchingAtEnd o w m) where
     abbrev a : ℕ

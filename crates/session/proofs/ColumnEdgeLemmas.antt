@@ -30,7 +30,7 @@ module _ (rules : Rules) (kept : List Layout) (clusters : AllClusters kept) (n :
   abbrev AtLast : ℕ → Edge → Type 0
   AtLast = IsLastTo rules kept n line start
 
-  -- on the columns of the text
+  -- the edge at a column of the line is at the last boundary up to this column
   over_unit : (column : ℕ) → column < line.columns → AtLast column (edge_on kept line start column)
   over_unit column below =
       let own : Owns kept line start column = owns kept line start facts.ordered facts.adjoin facts.clusters facts.columns column below in
@@ -50,7 +50,7 @@ module _ (rules : Rules) (kept : List Layout) (clusters : AllClusters kept) (n :
         ];
       })
 
-  -- right of the text
+  -- the edge at a column to the right of the text is also at the last boundary up to this column
   past_units : (column : ℕ) → line.columns ≤ column → 0 < line.columns → AtLast column (edge_on kept line start column)
   past_units column past some =
       let own : Owns kept line start end_column = owns kept line start facts.ordered facts.adjoin facts.clusters facts.columns end_column (omega (arith, some, facts.columns)) in
@@ -68,7 +68,7 @@ module _ (rules : Rules) (kept : List Layout) (clusters : AllClusters kept) (n :
         last = λ c bound to. omega (arith, at, boundary_within kept line start facts.ordered facts.adjoin facts.clusters facts.columns c bound);
       })
 
-  -- on a line without columns, the caret before its first character
+  -- on a line without columns, the edge is before the first character
   no_units : (column : ℕ) → line.columns ≡ 0 → AtLast column (edge_on kept line start column)
   no_units column none =
       let is : edge_on kept line start column ≡ before start =

@@ -35,7 +35,7 @@ module _ (line : Visual) where
   pub one_between : (k : ℕ) → k < length line.text → columns_between line k (suc k) ≡ width_at k
   one_between k within = omega (arith, between_more k k (omega arith) within, none_between k)
 
-  -- a character that takes columns, and one that does not
+  -- a character that takes columns has a width above 0, and one that does not has width 0
   pub takes : (k : ℕ) → k < length line.text → takes_columns line k ≡ true → 0 < width_at k
   takes k within some = omega (arith, ltb-true 0 (columns_between line k (suc k)) some, one_between k within)
 
@@ -80,7 +80,7 @@ module _ (line : Visual) where
       let at : k + (n - k) ≡ n = omega arith in
       subst (λ i. columns_between line j k ≤ columns_between line j i) at (rise j k (n - k) order (omega arith))
 
-  -- the character of a range that covers a given column of the range
+  -- a character of a range covers a given column of the range
   pub between_at : (j d o : ℕ) → j + d ≤ length line.text → o < columns_between line j (j + d)
       → (k : ℕ) × (j ≤ k) × (k < j + d) × (columns_between line j k ≤ o) × (o < columns_between line j (suc k))
   between_at j zero o within below = absurd (omega (arith, below, none_between j, (let n : j + 0 ≡ j = omega arith in ap (columns_between line j) n)))
@@ -108,7 +108,7 @@ module _ (line : Visual) where
   abbrev reaches : ℕ → ℕ → Bool
   reaches column place = nat_lt column (columns_left line (place + 1))
 
-  -- the visual position that covers a column
+  -- `covering` returns the visual position that covers a column
   pub covering_is : (column p : ℕ) → p < length line.vtol → columns_left line p ≤ column → column < columns_left line (p + 1) → covering line column ≡ Some p
   covering_is column p within from to =
       least_some (reaches column) 0 (length line.vtol) p (omega arith) (omega arith) (lt-ltb column (columns_left line (p + 1)) to)

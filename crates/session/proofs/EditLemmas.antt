@@ -184,14 +184,15 @@ given_each : (is_measured : Bool) (list text : List ℕ) → (is_measured ≡ tr
 given_each false list text each = tt
 given_each true list text each = each refl
 
--- new layouts in the middle of a text
+-- splicing replaces the layouts in the middle of a text with the new ones
 spliced_layouts : (left mid right new : List Layout) (first last : ℕ) → first ≡ length left → last ≡ length left + length mid
     → splice (left ++ (mid ++ right)) first last new ≡ left ++ (new ++ right)
 spliced_layouts left mid right new first last first-is last-is =
     ap₂ (λ (xs ys : List Layout). xs ++ (new ++ ys)) (take_at left (mid ++ right) first (sym first-is))
     (ap (drop last) (sym (append_assoc left mid right)) ∙ drop_at (left ++ mid) right last (length-append left mid ∙ sym last-is))
 
--- the texts and the advances of the paragraphs before a range, in it, after it, and of those that replace it
+-- ---- the texts and the advances of the paragraphs before a range, in it and after it, and of those that
+-- replace it
 module _ (rules : Rules) (width : ℕ) (left mid right new : List (List ℕ)) (front inner back fresh : List ℕ) (first last : ℕ)
     (first-is : first ≡ length left) (last-is : last ≡ length left + length mid) where
   pub middle_laid : (is_measured : Bool) (kept : List Layout)

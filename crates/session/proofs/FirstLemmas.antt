@@ -88,7 +88,7 @@ module _ (test : ℕ → Bool) where
         | inr last ↦ ap (λ (o : Option ℕ). unwrap_or o end) (least_none low count (λ c above under. is.fails c above (omega arith))) ∙ omega arith
       ]
 
-  -- the same for the last number below a bound
+  -- the same holds for the last number below a bound
   pub greatest_over : (a d : ℕ) → ((c : ℕ) → a ≤ c → c < a + d → test c ≡ false) → greatest test (a + d) ≡ greatest test a
   greatest_over a zero fails = let n : a + 0 ≡ a = omega arith in ap (greatest test) n
   greatest_over a (suc d) fails =
@@ -145,7 +145,7 @@ module _ (test : ℕ → Bool) where
             (omega (arith, before.0), before.1)
       ]
 
-  -- the number after the last one below n that passes; the numbers from there up to n fail
+  -- the number after the last one below n that passes is at most n, and the numbers from there up to n fail
   pub begin_to : (n : ℕ) → after (greatest test n) 0 ≤ n
   begin_to zero = omega arith
   begin_to (suc n) =

@@ -56,7 +56,7 @@ module _ (is_cut : ℕ → ℕ → Bool) where
       → is_within_limit is_cut text ≡ false
   long_first text first after split long = first_tested text first after split false (not-true _ long)
 
-  -- the paragraphs of a text whose first paragraph ends at a byte
+  -- if the first paragraph of a text ends at byte n, the others are the paragraphs of the text after byte n
   pub split_at_end : (text first after : List ℕ) (n : ℕ) → EndsAfter is_cut [] text n → first ≡ take n text → after ≡ drop n text
       → paragraphs is_cut (chars text) ≡ chars first ∷ paragraphs is_cut (chars after)
   split_at_end text first after n ends first-is after-is =
@@ -125,7 +125,7 @@ module _ (rules : Rules) (width : ℕ) (all : List Layout) (rest : List ℕ) (ad
   pub layouts_none : rest ≡ [] → kept ≡ all
   layouts_none none = sym (append-nil kept) ∙ ap (λ r. kept ++ layouts_from rules width advances (paragraphs (cut_by rules) r)) (sym none) ∙ so_far
 
--- the advances for all characters of a text
+-- the first advances, as many as the text has characters, are all its advances
 pub front_all : (text : List ℕ) (advances : Option (List ℕ)) → AreForEach advances text → front_advances (length text) advances ≡ advances
 front_all text None each = refl
 front_all text (Some list) each = ap Some (take_all (length text) list (omega (arith, each)))
@@ -157,7 +157,7 @@ no_chars (b ∷ bytes) none = absurd (omega (arith, none))
 pub text_none : (bytes : List ℕ) (b : Bool) → b ≡ (length bytes == 0) → b ≡ true → chars bytes ≡ []
 text_none bytes b e t = nil_from_length (chars bytes) (no_chars bytes (ap length (none_left bytes b e t)))
 
--- the tests of a length against the limit
+-- ---- the tests of a length against the limit
 pub is_short : (n : ℕ) → n ≤ PARAGRAPH_LIMIT → false ≡ not (nat_le n PARAGRAPH_LIMIT)
 is_short n short = sym (ap not (le-leb n PARAGRAPH_LIMIT short))
 

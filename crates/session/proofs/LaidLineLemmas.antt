@@ -123,7 +123,7 @@ module _ (kept : List Layout) (lined : All IsLined kept) where
     lines_before = refl;
   }
 
-  -- the cluster of a character, by the paragraph that has it
+  -- the cluster of a character is its cluster in the paragraph that contains it
   cluster_by : (pos : ℕ) (i : IsIn chars_of kept pos) → pos < length (text_of kept) → cluster_at kept pos ≡ Some (cluster_in (sum_by chars_of i.before) i.item.text pos)
   cluster_by pos i inside =
       let f : Finds chars_of chars_of lines_of kept pos (found_in i.before i.rest) = chars_found pos i in
@@ -183,7 +183,7 @@ pub record IsLaid (l : Layout) : Type 0 where
 abbrev starts_in : Layout → List ℕ
 starts_in l = map begins l.lines
 
--- the length of a line of a paragraph
+-- the length of a line of a paragraph is the distance from its start to its end
 length_of : (l : Layout) (r : ℕ) (line : Visual) → slice_get (visuals l) r ≡ Some line → line.len ≡ end_of (length l.text) (starts_in l) r - get_or (starts_in l) r 0
 length_of l r line is =
     let found = mapped (visual_of l.base l.tab_width l.advances l.text l.lines r) (slice_get l.lines r) line (visual_at l r ∙ is) in
@@ -208,7 +208,7 @@ module _ (kept : List Layout) (laid : All IsLaid kept) where
     lines_before = refl;
   }
 
-  -- the layout that has a line
+  -- the layout that contains a line is laid out
   laid_item : (n : ℕ) (i : IsIn lines_of kept n) → IsLaid i.item
   laid_item n i =
       let read : slice_get kept (length i.before) ≡ Some i.item = sym (found_item lines_of kept n (found_in i.before i.rest) (lines_found n i)) in

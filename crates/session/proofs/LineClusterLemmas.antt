@@ -32,7 +32,7 @@ clusters_past kept n past =
     let none : slice_get (line_starts kept) n ≡ None = slice_get_past (line_starts kept) n (omega (arith, past, length-lines_from 0 kept)) in
     sym (ap (option_and_then (λ start. option_map (λ (line : Visual). ends_in (ends_of_text kept) start line.len) (slice_get (lines_in kept) n))) none)
 
--- the length of a line, by where the lines of its paragraph start
+-- the length of a line is the distance from its start to its end, by the line starts of its paragraph
 visual_len : (l : Layout) (k : ℕ) → k < length l.lines
     → option_map (λ (line : Visual). line.len) (slice_get (visuals l) k) ≡ Some (end_of (length l.text) (map begins l.lines) k - get_or (map begins l.lines) k 0)
 visual_len l k within =
@@ -47,7 +47,7 @@ map_len : (g : ℕ → List ℕ) (line : Option Visual) (m : ℕ) → option_map
 map_len g (Some line) m is = ap (option_map g) is
 map_len g None m is = ap (option_map g) is
 
--- the line that a search found
+-- the clusters that a search for line n leads to are the clusters of this line
 module _ (kept : List Layout) (n : ℕ) (found : Found) (f : Finds lines_of chars_of lines_of kept n found) (l : Layout) (read : Some l ≡ slice_get kept found.index) (lined : IsLined l) where
   pub clusters_found : Some (ends_in (cluster_ends l.text) (get_or (map begins l.lines) found.rest 0)
       (end_of (length l.text) (map begins l.lines) found.rest - get_or (map begins l.lines) found.rest 0)) ≡ line_clusters kept n

@@ -21,7 +21,7 @@ module _ (list : List ℕ) (from len : ℕ) (within : from + len ≤ length list
   length-part : length part ≡ len
   length-part = length-take-le len (drop from list) (omega (arith, length-drop from list, within))
 
-  -- one more of them
+  -- the first k + 1 advances are the first k and the one at `from + k`
   pub part_more : (k : ℕ) → k < len → take (k + 1) part ≡ take k part ++ get_or list (from + k) 0 ∷ []
   part_more k below =
       take_more part k 0 (omega (arith, length-part, below))
@@ -30,7 +30,7 @@ module _ (list : List ℕ) (from len : ℕ) (within : from + len ≤ length list
   pub part_whole : (k : ℕ) → len ≤ k → take k part ≡ part
   part_whole k all = take_all k part (omega (arith, length-part, all))
 
-  -- their sum
+  -- ---- the sum of the first advances
   module _ (k total : ℕ) (so_far : total ≡ sum (take k part)) where
     pub sum_more : k < len → total + get_or list (from + k) 0 ≡ sum (take (k + 1) part)
     sum_more below =
@@ -165,7 +165,7 @@ made_all rules width pars list first end i from made m all =
     ∙ ap (λ ps. made ++ layouts_from rules width (Some (drop from list)) ps) (sym (slice_none pars i end all))
     ∙ m.laid_out
 
--- the text of the paragraph that was read at an index
+-- ---- the text of the paragraph that was read at an index
 module _ (kept : List Layout) (i : ℕ) (l : Layout) (read : Some l ≡ slice_get kept i) where
   pub read_text : get_or (pars_of kept) i [] ≡ l.text
   read_text = text_read kept i (Some l) read
@@ -185,11 +185,11 @@ read_some kept i below none = elim (slice_get_cases kept i).1 [
   | inr past ↦ absurd (omega (arith, past.0, below))
 ]
 
--- as many texts as layouts
+-- there are as many texts as layouts
 pub as_many : (kept : List Layout) (end : ℕ) → end ≤ length kept → end ≤ length (pars_of kept)
 as_many kept end within = omega (arith, within, length-map kept (λ (l : Layout). l.text))
 
--- the characters of the other paragraphs
+-- the characters of a range of paragraphs are those of its first paragraph and those of the others
 pub rest_sizes : (pars : List (List ℕ)) (i end : ℕ) → i < end → end ≤ length pars
     → length (concat (slice_range pars i end)) ≡ length (get_or pars i []) + length (concat (slice_range pars (i + 1) end))
 rest_sizes pars i end below within =

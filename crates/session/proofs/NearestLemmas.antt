@@ -70,7 +70,7 @@ module _ (rules : Rules) (kept : List Layout) (line : Visual) (start : ℕ) (dir
             ]
       ]
 
--- the same on each line of a text
+-- the same holds for each line of a text
 pub steps_are_nearest : (rules : Rules) (kept : List Layout) → AllClusters kept
     → ((n : ℕ) (line : Visual) (start : ℕ) → line_at kept n ≡ Some (line, start) → IsLineOf kept n line start) → StepsAreNearest rules kept
 steps_are_nearest rules kept clusters lines =

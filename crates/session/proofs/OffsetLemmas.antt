@@ -90,7 +90,7 @@ module _ (encoding : Encoding) where
   pub position_past : (text : List ℕ) (offset : ℕ) → length_in encoding text < offset → position_of encoding text offset ≡ None
   position_past text offset past = cond-true (nat_lt (length_in encoding text) offset) None _ (lt-ltb (length_in encoding text) offset past)
 
-  -- the last position with at most `offset` units before it
+  -- `pos` is the last position with at most `offset` units before it
   module _ (text : List ℕ) (offset pos rest : ℕ) (sum : length_in encoding (take pos text) + rest ≡ offset) (inside : pos ≤ length text)
       (later : (j : ℕ) → pos + 1 ≤ j → j < length text + 1 → offset < length_in encoding (take j text)) where
     abbrev fits : ℕ → Bool
@@ -105,13 +105,13 @@ module _ (encoding : Encoding) where
         ∙ ap (option_map (λ p. (p, offset - length_in encoding (take p text)))) (skipped ∙ here)
         ∙ ap (λ n. Some (pos, n)) left
 
-  -- the position of the end
+  -- the position of the offset at the end of the text is the length of the text
   pub position_end : (text : List ℕ) (offset : ℕ) → offset ≡ length_in encoding text → position_of encoding text offset ≡ Some (length text, 0)
   position_end text offset all =
       let whole : length_in encoding (take (length text) text) ≡ length_in encoding text = ap (length_in encoding) (take-length text) in
       position_found text offset (length text) 0 (omega (arith, whole, all)) (omega arith) (λ j from to. absurd (omega arith)) (omega (arith, all))
 
-  -- the position of a unit
+  -- the position of a unit is that of the character that contains it
   pub unit_position : (text : List ℕ) (offset pos rest : ℕ) → IsUnitAt encoding text offset pos rest → position_of encoding text offset ≡ Some (pos, rest)
   unit_position text offset pos rest u =
       let size = size_in encoding in
@@ -140,7 +140,7 @@ pub counts_before : (encoding : Encoding) (size : Layout → ℕ) (kept : List L
 counts_before Utf8 size kept n found f counts = counts.bytes_before ∙ ap (sum_by (units_of Utf8)) (front_is size kept n found f)
 counts_before Utf16 size kept n found f counts = counts.utf16_before ∙ ap (sum_by (units_of Utf16)) (front_is size kept n found f)
 
--- the offset of a position, from the paragraph that the search finds
+-- ---- the offset of a position, from the paragraph that the search finds
 module _ (encoding : Encoding) (kept : List Layout) (pos : ℕ) (found : Found) (f : Finds chars_of chars_of lines_of kept pos found) (l : Layout)
     (read : Some l ≡ slice_get kept found.index) (counts : CountsBefore (units_of Utf8) (units_of Utf16) kept found) where
   pub front_within : found.rest ≤ length l.text
@@ -177,7 +177,7 @@ module _ (encoding : Encoding) (kept : List Layout) (pos : ℕ) (found : Found) 
       ) in
       offset_within encoding (text_of kept) pos within ∙ ap Some sum
 
--- the position of a unit, from its place in the paragraph that the search finds
+-- ---- the position of a unit, from its place in the paragraph that the search finds
 module _ (encoding : Encoding) (kept : List Layout) (offset : ℕ) (found : Found) (f : Finds (units_of encoding) chars_of lines_of kept offset found) (l : Layout)
     (read : Some l ≡ slice_get kept found.index) where
   pub unit_within : found.rest < units_of encoding l

@@ -18,7 +18,7 @@ use Rattle.session.specs.declared.changed.Matching.{Matching}
 use Rattle.session.proofs.BorderLemmas.{length-lines, lines_of}
 use Rattle.session.proofs.ChangedLemmas.{both_parts, end_goes_on, end_is_found, end_within, start_goes_on, start_is_found, start_within, EndSoFar, StartSoFar}
 
--- the item that was read at an index
+-- the item that was read at an index is the item at this index
 item : (ks : List Layout) (i : ℕ) (l : Layout) → Some l ≡ slice_get ks i → get_or ks i l ≡ l
 item ks i l read = sym (unwrap_or-slice_get ks i l) ∙ ap (λ o. unwrap_or o l) (sym read)
 

@@ -33,7 +33,7 @@ module _ (width : ℕ) (print : Print) where
   pub pieces_all : (kept : List Layout) (k : ℕ) → length kept ≤ k → concat (take k (pieces kept)) ≡ flat_map (layout_bytes width print) kept
   pieces_all kept k past = ap concat (take_all k (pieces kept) (rw (length-map kept (layout_bytes width print)) past)) ∙ pieces_whole kept
 
-  -- the printed bytes of the paragraph that was read at index k
+  -- ---- the printed bytes of the paragraph that was read at index k
   module _ (kept : List Layout) (k : ℕ) (l : Layout) (read : Some l ≡ slice_get kept k) where
     pub piece_within : k < length (pieces kept)
     piece_within = rw (length-map kept (layout_bytes width print)) (slice_get_within kept k l (sym read))

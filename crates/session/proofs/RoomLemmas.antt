@@ -83,7 +83,7 @@ room-push starts c a (p ∷ q ∷ ps) list each =
     ∙ ap (λ n. fits (sum (take (length p) list)) && (have_room rest (q ∷ ps) && fits ((if starts then 0 else n) + a))) same
     ∙ and_assoc (fits (sum (take (length p) list))) (have_room rest (q ∷ ps)) (fits ((if starts then 0 else sum_last list (p ∷ q ∷ ps)) + a))
 
--- the sum before a character is added: 0 if it starts a paragraph
+-- equal sums are still equal if both become 0 at the start of a paragraph
 before_same : (starts : Bool) (m n : ℕ) → m ≡ n → (if starts then 0 else m) ≡ (if starts then 0 else n)
 before_same true m n e = refl
 before_same false m n e = e
@@ -113,7 +113,7 @@ module _ (law : ParagraphsArePieces) (is_cut : ℕ → ℕ → Bool) (text list 
       get_or-last (paragraphs is_cut (text ++ c ∷ [])) ∙ ap last_of (paragraphs-push is_cut text c) in
       ap₂ (λ n (p : List ℕ). sum (drop (n - length p) (list ++ a ∷ []))) size last ∙ sum_last-push starts c a ps list each_listed
 
-  -- the sum that the scan has before the character is added
+  -- the sum that the scan keeps, or 0 if the character starts a paragraph, is the sum before this character
   scan_before : (n : ℕ) → n ≡ (if starts_piece is_cut scan.last c then 0 else scan.sum) → have_room list ps ≡ true → n ≡ before
   unfolding before starts
   scan_before n n-is has =
@@ -122,7 +122,7 @@ module _ (law : ParagraphsArePieces) (is_cut : ℕ → ℕ → Bool) (text list 
       (known.sum_is has ∙ ap₂ (λ m (p : List ℕ). sum (drop (m - length p) list)) (sym known.each) (get_or-last ps))
 
   module _ (n : ℕ) (n-is : n ≡ (if starts_piece is_cut scan.last c then 0 else scan.sum)) where
-    -- the sum still fits
+    -- if the sum with the next advance fits, `HasSummed` holds after the character
     pub summed_within : (is_over : Bool) (more : ℕ) → n + a < 2 ^ 32 → more ≡ n + a → is_over ≡ scan.is_over
         → HasSummed is_cut (text ++ c ∷ []) (list ++ a ∷ []) (record { last = Some c; sum = more; is_over = is_over })
     summed_within is_over more fit more-is over-is = record {
@@ -165,7 +165,7 @@ pub summed_same : (is_cut : ℕ → ℕ → Bool) (text part same list given oth
 summed_same is_cut text part same list given others scan e f known =
     subst (λ (xs : List ℕ). HasSummed is_cut (text ++ xs) (list ++ others) scan) e (subst (λ (ys : List ℕ). HasSummed is_cut (text ++ part) (list ++ ys) scan) f known)
 
--- the advances of inserted characters
+-- one more inserted character has one more advance of 0
 pub zeros_push : (xs : List ℕ) (c : ℕ) → replicate {A = ℕ} (length (xs ++ c ∷ [])) 0 ≡ replicate (length xs) 0 ++ 0 ∷ []
 zeros_push [] c = refl
 zeros_push (x ∷ xs) c = ap (λ ys. 0 ∷ ys) (zeros_push xs c)
@@ -174,12 +174,12 @@ pub not_not : (b : Bool) → not (not b) ≡ b
 not_not true = refl
 not_not false = refl
 
--- the sum of three lists of advances, of which the second has zeros
+-- zeros between two lists of advances do not change their sum
 pub joined_sum : (front back : List ℕ) (n : ℕ) → sum (front ++ (replicate n 0 ++ back)) ≡ sum front + sum back
 joined_sum front back n =
     omega (arith, sum_by-append (λ (x : ℕ). x) front (replicate n 0 ++ back), sum_by-append (λ (x : ℕ). x) (replicate n 0) back, zeros_sum n)
 
--- what a scan of the three parts finds
+-- a scan of the three parts finds whether their paragraphs are within the limit
 pub room_of_parts : (is_cut : ℕ → ℕ → Bool) (front piece back front_list zeros back_list : List ℕ) (scan : RoomScan)
     → HasSummed is_cut ([] ++ front ++ piece ++ back) ([] ++ front_list ++ zeros ++ back_list) scan
     → not scan.is_over ≡ have_room (front_list ++ (zeros ++ back_list)) (paragraphs is_cut (front ++ (piece ++ back)))

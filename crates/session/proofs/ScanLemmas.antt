@@ -133,8 +133,8 @@ slice_get-push text c =
     let at_end : length (text ++ c ∷ []) - 1 ≡ length text = omega (arith, length_push text c) in
     rw at_end (sym (slice_get-get_or (text ++ c ∷ []) (length text) c (omega (arith, length_push text c)) ∙ ap (λ x. Some x) (get_or_push text c c (length text) refl)))
 
--- The length of the last paragraph before and after one more character. Before a character that starts a new
--- paragraph, the length is 0.
+-- One more character changes the capped length of the last paragraph as it changes the length. Before a
+-- character that starts a new paragraph, the length is 0.
 len_before : (starts : Bool) (m n : ℕ) → n ≡ min m PARAGRAPH_LIMIT → (if starts then 0 else n) ≡ min (if starts then 0 else m) PARAGRAPH_LIMIT
 len_before true m n h = refl
 len_before false m n h = h

@@ -72,7 +72,7 @@ fills_within few many old new le counts = record {
   written = record { least = counts.written.least; most = omega (arith, le, counts.written.most) };
 }
 
--- the advances and the texts of the paragraphs of a measured session
+-- ---- the advances and the texts of the paragraphs of a measured session
 module _ (engine : Engine) (width : ℕ) (kept : List Layout) (whole : IsWholeLayout (state_of engine width true kept)) where
   abbrev list : List ℕ
   list = concat (advance_lists kept)
@@ -205,7 +205,7 @@ module _ (engine : Engine) (width : ℕ) (kept : List Layout) (whole : IsWholeLa
         ∙ ap (λ n. drop (length (get_or lists (back.index - 1) []) - (n - (pos + length new))) (get_or lists (back.index - 1) [])) (sym stop) in
         ap₂ (λ (xs ys : List ℕ). xs ++ (new ++ ys)) first last
 
-    -- the advances of the session, with the new ones
+    -- setting the new advances in the session's list replaces those of the region
     list_after : advances_set list pos new ≡ left_list ++ (region ++ right_list)
     list_after =
         let place : length left_list + from ≡ pos = omega (arith, range.front_is.border_is.chars, list_starts front.index, low) in
@@ -247,14 +247,14 @@ module _ (engine : Engine) (width : ℕ) (kept : List Layout) (whole : IsWholeLa
         (le-ltb (length (text_of kept)) (pos + length new) range.within)
         ∙ ap (λ c. if c then None else Some ParagraphTooLong) room_is
 
-    -- the session after memory ran out
+    -- after an allocation failure, `SetsAdvancesNot` holds for the session
     pub SetsAdvancesNot-after : (next : Engine) → have_room region mid ≡ true → SameRules engine next → FillsAtMost (length (concat mid)) engine next
         → SetsAdvancesNot pos new (state_of engine width true kept) (state_of next width true kept) NoMemory
     SetsAdvancesNot-after next has same counts =
         Remains-worked engine next width true kept pos new whole (refusal_is ∙ cond-true (have_room region mid) None (Some ParagraphTooLong) has) same
         (fills_within (length (concat mid)) (length (text_of kept)) engine next mid_within counts)
 
-    -- the session after the layouts of these paragraphs are replaced
+    -- ---- the session after the layouts of these paragraphs are replaced
     module _ (made : List Layout) (laid : made ≡ layouts_from rules width (Some region) mid) where
       abbrev pub after : List Layout
       after = splice kept front.index back.index made

@@ -20,7 +20,7 @@ use Rattle.session.specs.declared.edits.Damage.{Damage}
 use Rattle.session.specs.declared.edits.EditFault.{EditFault}
 use Rattle.session.proofs.PlaceLemmas.{lines_lined}
 
--- what follows from a fact about a result
+-- if a fact about a result implies another one, the other one holds too
 pub if_ok : {X E : Type 0} (P Q : X → Type 0) (r : Result X E) → ((x : X) → P x → Q x) → IfOk r P → IfOk r Q
 if_ok P Q (Ok x) follows fact = follows x fact
 if_ok P Q (Err e) follows fact = tt

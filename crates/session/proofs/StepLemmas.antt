@@ -97,7 +97,7 @@ module _ (rules : Rules) (kept : List Layout) (clusters : AllClusters kept) (car
   leads Right within = right_leads
   leads Left within = left_leads_by caret.column refl within
 
-  -- a step back
+  -- ---- a step back
   module _ (at : line_at kept caret.line ≡ Some (line, start)) where
     -- a step from an edge of a unit is one from its caret's column
     step_from : (edge : Edge) (from : Caret) → edge_caret_at rules kept edge ≡ Some from → from.line ≡ caret.line → (direction : Direction)

@@ -39,7 +39,7 @@ module _ (left lo ln right : List Visual) (damage : Damage) (s e : ℕ) (start :
   back-new : s + back ≤ length ln
   back-new = omega (arith, start.in_first, start.in_second, old-is, new-is)
 
-  -- fewer last lines match, too
+  -- the last lines still match if there are fewer of them
   last : drop (length ln - back) ln ≡ drop (length lo - back) lo
   last =
       let a : length ln - e + (e - back) ≡ length ln - back = omega (arith, end.in_second, back-most) in
@@ -139,7 +139,7 @@ AreFound-all kept made damage s e first old new start end all all_2 =
     (subst (λ ys. AreChanged (lines_in kept ++ []) ys damage (without_same damage s e)) (append-nil (lines_in made))
     (changed_lines [] (lines_in kept) (lines_in made) [] damage s e (start all all_2) (end all all_2) first old new))
 
--- nothing changes
+-- if no line was replaced, no line has changed
 pub AreFound-none : (kept : List Layout) (damage : Damage) → damage.first_line ≡ 0 → damage.old_lines ≡ 0 → damage.new_lines ≡ 0
     → AreFound kept kept damage (record { first_line = 0; old_lines = 0; new_lines = 0 })
 AreFound-none kept damage first old new all all_2 = record {

@@ -58,7 +58,7 @@ record IsBeside (kept : List Layout) (n start : ℕ) (side : Side) (k column : �
   at : to.column ≡ column
 
 module _ (rules : Rules) (kept : List Layout) (n : ℕ) (line : Visual) (start : ℕ) (facts : IsLineOf kept n line start) where
-  -- the caret on a side of a character of a cluster
+  -- the caret on a side of a character is on this line, at the column that `column_on` returns
   beside : (side : Side) (k : ℕ) (cluster : Cluster) → k < length line.levels → cluster_at kept (start + k) ≡ Some cluster
       → IsBeside kept n start side k (column_on side line start cluster k)
   beside side k cluster within is =
@@ -79,7 +79,7 @@ module _ (rules : Rules) (kept : List Layout) (n : ℕ) (line : Visual) (start :
         at = ap₂ (λ s o. column_on side line s cluster o) begins placed.offset;
       }
 
-  -- the edge before a character of a cluster, and that after it
+  -- the edge before a character is drawn at the column that `column_before` returns
   before_drawn : (k : ℕ) (cluster : Cluster) → k < length line.levels → cluster_at kept (start + k) ≡ Some cluster
       → IsDrawn rules kept n (before (start + k)) (column_before line start cluster k)
   before_drawn k cluster within is =

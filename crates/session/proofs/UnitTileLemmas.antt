@@ -54,7 +54,7 @@ module _ (kept : List Layout) (line : Visual) (start : ℕ) where
   same_covers column one other is covers = subst (Covers kept line start column) (same_Some one other (sym covers.found ∙ is)) covers
 
   module _ (ordered : IsOrdered line) (adjoin : Adjoins kept line start) (clusters : HaveClusters kept line start) (fits : width_of line ≡ line.columns) where
-    -- the unit of a character whose place covers a column
+    -- the unit at a column is the unit of the character whose place covers the column
     at_place : (column k : ℕ) → k < length line.levels → columns_left line (get_or line.ltov k 0) ≤ column → column < columns_left line (get_or line.ltov k 0 + 1)
         → (cluster : Cluster) → cluster_at kept (start + k) ≡ Some cluster → unit_at kept line start column ≡ Some (unit_of line start cluster k)
     at_place column k within from to cluster is =

@@ -332,7 +332,7 @@ module _ (law : ParagraphsArePieces) (few : LinesAreFew) (engine : Engine) (old 
   number-after : length after ≡ length kept
   number-after = length-map kept (refilled_one (rules_of engine) width)
 
-  -- the advances stay
+  -- the advances of the session do not change
   advances-after : advances_in is_measured after ≡ advances
   advances-after =
       ap (advances_in is_measured) after_is

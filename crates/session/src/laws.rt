@@ -52,8 +52,8 @@ pub fn measured_edits_are_drawn_at_once()
 /// States, as a theorem, that the units of each line tile its columns, and that each step leads to the
 /// nearest boundary in its direction on the same line, if there is one. So repeated steps reach every
 /// boundary in their direction. From a boundary, a step and a step back return to the same column. The edge
-/// at a column is at the last boundary up to that column. This holds at any width, by any rules with
-/// `reorder_clusters`, and by any rules under which marks stay in place or take no columns. Without
+/// at a column is at the last boundary up to that column. This holds at any width, under any rules
+/// with `reorder_clusters`, and under any rules that leave marks in place or give them no columns. Without
 /// `reordernsm`, marks stay in place. In the tables of Unicode 15.0, all nonspacing marks except U+2D7F and
 /// U+1171E take no columns; this was read from the tables, and is not proved. Costs nothing at run time.
 pub fn steps_lead_to_boundaries()

@@ -23,7 +23,7 @@ module _ {P : Type 0} (G : Ghosts P) (unit : Counted) where
         utf16_before = is.sums.each Utf16 ∙ ap (sum_by G.utf16) (sym front);
       }
 
-  -- the place of an item, given the items before it
+  -- an item is at the place that the items before it determine
   pub place_of : (before : List P) (item : P) (after items : List P) (n : ℕ) (g : Place) → items ≡ before ++ item ∷ after → g.index ≡ length before
       → sum_by (measure G unit) before + g.rest ≡ n → g.rest < measure G unit item → AreSums G before g.before → IsPlace G unit items n g
   place_of before item after items n g place_is index_is rest_is within_is sums_are = record {
@@ -82,7 +82,7 @@ module _ {P : Type 0} (G : Ghosts P) (unit : Counted) where
         (omega (arith, at.within))
         sums_are
 
--- the place of an item by its index
+-- ---- the place of an item, by its index
 module _ {P : Type 0} (G : Ghosts P) where
   pub item_found : (items : List P) (index : ℕ) (f : Place) → IsItemPlace G items index f → FindsItem G.chars G.lines items index (found_at f)
   item_found items index f is = record {
@@ -99,7 +99,7 @@ module _ {P : Type 0} (G : Ghosts P) where
         utf16_before = is.sums.each Utf16 ∙ ap (sum_by G.utf16) front;
       }
 
-  -- an item of the left subtree, the root's item, and an item of the right subtree
+  -- ---- an item of the left subtree, the root's item, and an item of the right subtree
   module _ (l : List P) (x : P) (r : List P) where
     pub item_before : (index : ℕ) (f g : Place) → index < length l → g.index ≡ f.index → g.rest ≡ f.rest → g.before ≡ f.before → IsItemPlace G l index f
         → IsItemPlace G (l ++ x ∷ r) index g

@@ -28,7 +28,7 @@ module _ {P : Type 0} (G : Ghosts P) where
   pub fit_by : (items : List P) (sums : Sums) → AreSums G items sums → AreBounded sums → SumsFit G items
   fit_by items sums are fit = record { each = λ (u : Counted). omega (arith, are.each u, fit u) }
 
-  -- the sums of items, of one more item, and of the items after it
+  -- ---- the sums of items, of one more item, and of the items after it
   module _ (xs : List P) (x : P) (ys : List P) (a b c d e : Sums) (front : AreSums G xs a) (one : AreSizes G x b) where
     pub first_fit : SumsFit G (xs ++ x ∷ ys) → (u : Counted) → part a u + part b u < 2 ^ 64
     first_fit all u = omega (arith, all.each u, front.each u, one u, sum_by-append (measure G u) xs (x ∷ ys), sum_by-cons (measure G u) x ys)
@@ -58,7 +58,8 @@ module _ {P : Type 0} (G : Ghosts P) where
       ];
     }
 
-  -- the sums after a replacement: the old ones, minus those of the replaced items, plus those of the new ones
+  -- ---- the sums after a replacement: the old ones, minus those of the replaced items, plus those of the new
+  -- ones
   module _ (xs ys : List P) (i j : ℕ) (ordered : i ≤ j) (a b c d e : Sums) (kept : AreSums G xs a) (old : AreSums G (slice_range xs i j) b) where
     pub old_within : (u : Counted) → part b u ≤ part a u
     old_within u = omega (arith, kept.each u, old.each u, range_within (measure G u) xs i j ordered)
@@ -72,7 +73,7 @@ module _ {P : Type 0} (G : Ghosts P) where
       each = λ (u : Counted). omega (arith, kept.each u, old.each u, new.each u, less u, more u, old_within u, sum_around_splice (measure G u) xs i j ys ordered);
     }
 
-  -- sums that fit, in each unit
+  -- sums fit if they fit in each unit
   pub fit_each : (items : List P) → sum_by G.chars items < 2 ^ 64 → sum_by G.lines items < 2 ^ 64 → sum_by G.bytes items < 2 ^ 64 → sum_by G.utf16 items < 2 ^ 64
       → SumsFit G items
   fit_each items chars lines bytes utf16 = record {

@@ -21,7 +21,7 @@ abbrev pub swapped : {A : Type 0} → List A → ℕ → A → List A
 swapped xs i y = splice xs i (i + 1) (y ∷ [])
 
 module _ {A : Type 0} where
-  -- the range of one item
+  -- the range of one item contains this item alone
   pub range_at : (xs : List A) (i : ℕ) (x : A) → slice_get xs i ≡ Some x → slice_range xs i (i + 1) ≡ x ∷ []
   range_at xs i x e =
       let n : i + 1 - i ≡ 1 = omega arith in
@@ -126,7 +126,7 @@ module _ {P : Type 0} (G : Ghosts P) where
     swap_more rest is =
         new_fit G items (y ∷ []) i (i + 1) (omega arith) n.sums less more rest rest s.summed.sums_are s.less_are s.more_are is s.fit
 
-    -- the node with its sums corrected and its items exchanged
+    -- a node with its sums corrected and its items exchanged is summed correctly
     pub swap_summed : (m : Node P) (rest : Sums) → IsLess rest → AreAdded rest more m.sums → IsLike n.left m.left → IsLike n.right m.right
         → m.height ≡ n.height → m.count ≡ n.count → in_order (tree_of_node m) ≡ swapped items i y → IsSummed G m
     swap_summed m rest less_is more_is l r h k items_are =
@@ -134,7 +134,7 @@ module _ {P : Type 0} (G : Ghosts P) where
         (subst (λ xs. AreSums G xs m.sums) (sym items_are)
         (new_are G items (y ∷ []) i (i + 1) (omega arith) n.sums less more rest m.sums s.summed.sums_are s.less_are s.more_are less_is more_is))
 
-    -- a subtree that stays the same
+    -- each subtree is like itself
     pub same_left : IsLike n.left n.left
     same_left = record { balanced = s.summed.balanced.0; height_is = refl; count_is = refl }
 

@@ -41,7 +41,7 @@ all_below (c ∷ cs) top bound most less =
     ap (λ b. b && list_all (λ d. nat_lt d bound) cs) (lt-ltb c bound (omega (arith, most 0 (omega arith), less)))
     ∙ all_below cs top bound (λ k within. most (suc k) (omega (arith, within))) less
 
--- a byte written at an index, and whatever is written after it
+-- a byte written at an index stays there, whatever is written after it
 pub put_one : (bytes : List ℕ) (at a b : ℕ) → at + 1 < length bytes → take (at + 1) (set (set bytes at a) (at + 1) b) ≡ take at bytes ++ a ∷ []
 put_one bytes at a b room =
     take-set-le (at + 1) (set bytes at a) (at + 1) b (omega arith) ∙ take_more_set bytes at a (omega (arith, room))

@@ -29,7 +29,7 @@ ascii_at text n k below within all =
       | inr failed ↦ absurd (both_ways (list_all is_ascii (take n text)) (list_all_at is_ascii (take n text) k 0 (omega (arith, below, length-take-le n text within)) failed) all)
     ]
 
--- moving ASCII characters, each of which is one byte
+-- ASCII characters can be moved byte by byte
 pub moved_ascii : (group before text after more : List ℕ) → list_all is_ascii group ≡ true → Moved before text after (group ++ more) → IsUtf8 (group ++ more)
     → Moved before text (after ++ group) more
 moved_ascii [] before text after more all moved utf8 = ap (λ t. t ++ chars more) (append-nil after) ∙ moved

@@ -58,7 +58,7 @@ each_below n (x ∷ xs) all =
     let parts = and_parts (ltb x n) (all_below n xs) all in
     (ltb→lt x n (is_true (ltb x n) parts.0), each_below n xs parts.1)
 
--- a fact about each list of n numbers, from the same fact about n numbers written out
+-- a fact holds for each list of n numbers if it holds for n numbers written out
 pub spelled : (P : List ℕ → Type 0) (n : ℕ) → ((f : ℕ → ℕ) → P (listed f n)) → (xs : List ℕ) → length xs ≡ n → P xs
 spelled P n h xs long =
     let f = λ (k : ℕ). get_or xs k 0 in
@@ -112,7 +112,7 @@ module _ {low high : ℕ} (few : low < 16) (some : high < 16) where
   pub length-ok : get_or LENGTHS row 0 ≤ 16
   length-ok = leb→le (get_or LENGTHS row 0) 16 (is_true _ (all_at (λ n. leb n 16) LENGTHS row 0 lengths-ok row-below))
 
-  -- the contents of the buffer after the shuffled vector has been written
+  -- ---- the contents of the buffer after the shuffled vector has been written
   module _ (words : List ℕ) (long : length words ≡ 4) (fits : Each1 (Fits w32) words) where
     kept-bytes : take (get_or LENGTHS row 0) (swz_l w8 16 (digits_l 256 16 (number_l 4294967296 words)) 0 (get_or SHUFFLES row [])) ≡ packed words low high
     kept-bytes =
@@ -142,7 +142,7 @@ lowest : (b : Bool) (n : ℕ) → ((cond b 1 0 + 2 * n) % 2 ≡ cond b 1 0) × (
 lowest true n = omega arith
 lowest false n = omega arith
 
--- lanes that start with the bytes of the characters, with masks for how many bytes each has
+-- packing lanes that start with the bytes of the characters yields the UTF-8 of the characters
 pub packed-encoded : (word : ℕ → ℕ) (low high test : ℕ → Bool)
     → ((c : ℕ) → test c ≡ true → take (kept (cond (low c) 1 0) (cond (high c) 1 0)) (bytes_of (word c)) ≡ encode_utf8 c)
     → (cs : List ℕ) → list_all test cs ≡ true → packed (map word cs) (mask_l (map low cs)) (mask_l (map high cs)) ≡ encode_utf8_all cs
@@ -319,7 +319,7 @@ any-encoded = spelled (λ cs. list_all is_code cs ≡ true → any_packed cs ≡
     (λ i. packed (map word cs) (mask_l-mod (map low cs) 64 (omega arith) i) (mask_l-mod (map high cs) 64 (omega arith) i))
     ∙ packed-encoded word low high is_code any-lane cs bounded)
 
--- a loop that encodes four characters at a time, and then the rest
+-- ---- a loop that encodes four characters at a time, and then the rest
 module _ (cs : List ℕ) (k : ℕ) (front : List ℕ) {before after : List ℕ} (now : before ≡ front ++ encode_utf8_all (take k cs)) where
   pub four-more : (four : List ℕ) → four ≡ take 4 (drop k cs) → after ≡ before ++ encode_utf8_all four → after ≡ front ++ encode_utf8_all (take (k + 4) cs)
   four-more four four-is after-is =

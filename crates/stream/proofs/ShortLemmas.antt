@@ -80,7 +80,7 @@ none_marked : (p : ℕ → Bool) (xs : List ℕ) → nat_eq (mask_l (map (λ x. 
 none_marked p [] = refl
 none_marked p (x ∷ xs) = one_more (p x) (mask_l (map (λ y. not (p y)) xs)) (list_all p xs) (none_marked p xs)
 
--- an empty mask of the lanes that are at least y, as a test of all lanes
+-- the mask of the lanes that are at least y is empty if and only if all lanes pass the test
 pub none_from : (p : ℕ → Bool) (y : ℕ) (v : List ℕ) → length v ≡ 16 → Each1 (Fits w8) v → agree_below (λ x. top 7 (at_most y x)) (λ x. not (p x)) 256 ≡ true
     → nat_eq (mask_l (map (top 7) (zip2 at_most (replicate 16 y) v)) % 2 ^ 64) 0 ≡ list_all p v
 none_from p y v long fits all =
@@ -94,14 +94,14 @@ all_below_from_list_all y (x ∷ xs) all =
 
 -- ---- one character
 
--- a list of n numbers, written out
+-- a list of n numbers equals its items written out
 pub spell : (n : ℕ) (xs : List ℕ) → length xs ≡ n → xs ≡ listed (λ k. get_or xs k 0) n
 spell n xs long =
     let f = λ (k : ℕ). get_or xs k 0 in
     let many = length-map-range_with_len f 0 n in
     sym (ext_get_or 0 _ xs (many ∙ sym long) (λ i l. get_or-map-range_with_len f 0 n i i 0 (omega arith) (omega arith)))
 
--- what is computed in each lane
+-- each lane computes the character of its pair of bytes
 pub lane : (x : ℕ) → Fits w32 x → cond (top 31 (cond (ltb (bit_and x 255) 128) (2 ^ 32 - 1) 0)) (bit_and x 255) (((bit_and x 31 * 2 ^ 6) % 2 ^ 32 + bit_and (x / 2 ^ 8) 63) % 2 ^ 32) ≡ short_char x
 lane x fits =
     rw (and_mask x 8, and_mask x 5, and_mask (x / 2 ^ 8) 6)
@@ -137,7 +137,7 @@ shuffled_small xs i (j ∷ js) all = (small_or_zero (zeroes 16 w8 j) _ (small_at
 abbrev wide : List ℕ → List ℕ
 wide xs = number_l 256 (chunk 0 4 xs) ∷ number_l 256 (chunk 4 4 xs) ∷ number_l 256 (chunk 8 4 xs) ∷ number_l 256 (chunk 12 4 xs) ∷ []
 
--- the numbers of four bytes each
+-- to base 2^32, the digits of the number with the given bytes are the numbers of four bytes each
 widened : (xs : List ℕ) → Each1 (λ x. x < 256) xs → digits_l (2 ^ 32) 4 (number_l 256 xs) ≡ wide xs
 widened xs all =
     let w : (j : ℕ) → j < 4 → get_or (digits_l (2 ^ 32) 4 (number_l 256 xs)) j 0 ≡ number_l 256 (chunk (4 * j) 4 xs) = λ j lt. get_or_wider 256 4 (2 ^ 32) 4 xs j refl all lt in
@@ -180,7 +180,7 @@ gathered none bytes marks few long fits =
 abbrev Counts : List ℕ → ℕ → Type 0
 Counts bytes marks = ones marks ≡ length (pairs 4 marks bytes)
 
--- as many pairs as marks
+-- a mask has as many marks as the bytes have pairs
 pub counted : (bytes : List ℕ) (marks : ℕ) → marks < 16 → length bytes ≡ 16 → ones marks ≡ length (pairs 4 marks bytes)
 unfolding ones
 counted bytes marks few long =
@@ -202,13 +202,13 @@ take_map f zero xs = refl
 take_map f (suc n) [] = refl
 take_map f (suc n) (x ∷ xs) = ap (λ t. f x ∷ t) (take_map f n xs)
 
--- the first n of four items that were written to an index
+-- if four items were written to an index, the first n of them follow the items before the index
 pub written : (at n : ℕ) (out four post : List ℕ) → at ≤ length out → n ≤ length four → take (at + n) (take at out ++ (four ++ post)) ≡ take at out ++ take n four
 written at n out four post within few =
     let len : length (take at out) ≡ at = length-take-le at out within in
     ap (λ k. take (k + n) (take at out ++ (four ++ post))) (sym len) ∙ take-append-add (take at out) (four ++ post) n ∙ ap (λ t. take at out ++ t) (take-append-le n four post few)
 
--- the characters of the first four bytes
+-- the first decoded characters are those of the pairs in the first four bytes
 pub first_chars : (f : ℕ → ℕ) (pair decoded : List ℕ) (bytes : List ℕ) (marks : ℕ) → marks < 16 → length bytes ≡ 16 → take (length (pairs 4 marks bytes)) pair ≡ pairs 4 marks bytes
     → decoded ≡ map f pair → take (ones marks) decoded ≡ map f (pairs 4 marks bytes)
 first_chars f pair decoded bytes marks few long gathers is =
@@ -216,7 +216,7 @@ first_chars f pair decoded bytes marks few long gathers is =
 
 -- ---- all pairs
 
--- the pairs of the first four bytes, and of the bytes after them
+-- the pairs of bytes are those of the first four bytes, and then those of the bytes after them
 pub pairs_after_4 : (n marks : ℕ) (w x y z : ℕ) (bytes : List ℕ)
     → pairs (suc (suc (suc (suc n)))) marks (w ∷ x ∷ y ∷ z ∷ bytes) ≡ pairs 4 (marks % 16) (w ∷ x ∷ y ∷ z ∷ bytes) ++ pairs n (marks / 16) bytes
 pairs_after_4 n marks w x y z bytes =
@@ -229,7 +229,7 @@ pairs_after_4 n marks w x y z bytes =
     (chain (marks % 2 == 1) (marks / 2 % 2 == 1) (marks / 2 / 2 % 2 == 1) (marks / 2 / 2 / 2 % 2 == 1)
     (w + 256 * x) (x + 256 * y) (y + 256 * z) (z + 256 * get_or bytes 0 0) (pairs n (marks / 2 / 2 / 2 / 2) bytes))
 
--- the pairs of 16 bytes, four bytes at a time
+-- the pairs of 16 bytes are those of each four bytes, one after another
 pub pairs_by_4 : (marks : ℕ) (f : ℕ → ℕ) → marks < 2 ^ 16
     → pairs 16 marks (listed f 16)
     ≡ pairs 4 (marks % 16) (listed f 16) ++ (pairs 4 (marks / 16 % 16) (drop 4 (listed f 16)) ++ (pairs 4 (marks / 256 % 16) (drop 8 (listed f 16)) ++ pairs 4 (marks / 4096) (drop 12 (listed f 16))))
@@ -247,7 +247,7 @@ map_append : (f : ℕ → ℕ) (xs ys : List ℕ) → map f (xs ++ ys) ≡ map f
 map_append f [] ys = refl
 map_append f (x ∷ xs) ys = ap (λ t. f x ∷ t) (map_append f xs ys)
 
--- four lists of characters, one after another
+-- decoding four lists one after another yields the characters of their concatenation
 pub joined : (f : ℕ → ℕ) (a b c d w x y z : List ℕ) → a ≡ map f w → b ≡ a ++ map f x → c ≡ b ++ map f y → d ≡ c ++ map f z → d ≡ map f (w ++ (x ++ (y ++ z)))
 joined f a b c d w x y z p q r s =
     s ∙ ap (λ t. t ++ map f z) (r ∙ ap (λ t. t ++ map f y) (q ∙ ap (λ t. t ++ map f x) p ∙ sym (map_append f w x)) ∙ sym (map_append f (w ++ x) y)) ∙ sym (map_append f ((w ++ x) ++ y) z)

@@ -49,7 +49,7 @@ lowest : (b : Bool) (n : ℕ) → ((cond b 1 0 + 2 * n) % 2 ≡ cond b 1 0) × (
 lowest true n = omega arith
 lowest false n = omega arith
 
--- the mask of the first n lanes
+-- the low n bits of a mask are the mask of the first n lanes
 mask_take : (n : ℕ) (ms : List Bool) → n ≤ length ms → mask_l ms % 2 ^ n ≡ mask_l (take n ms)
 mask_take zero ms le = mod-one (mask_l ms)
 mask_take (suc n) [] le = absurd (omega arith)
@@ -155,11 +155,11 @@ ends_after (c ∷ cs) bytes is all n within few last = go (λ m w f l. ends_afte
 pub ends_short : (text : List ℕ) (n : ℕ) → IsUtf8 text → n < length text → ((k : ℕ) → k ≤ n → get_or text k 0 < 224) → get_or text n 0 < 192 → IsCharBoundary text (suc n)
 ends_short text n utf8 within few last = IsCharBoundary-from_drop text (suc n) (omega arith) (ends_after utf8.0 text utf8.1.1 utf8.1.0 n within few last)
 
--- `1 << n`
+-- `1 << n` is 2^n
 pub shifted_one : (n : ℕ) → n ≤ 16 → (1 * 2 ^ n) % 2 ^ 64 ≡ 2 ^ n
 shifted_one n le = let most : 2 ^ n ≤ 2 ^ 16 = pow_mono le in omega (arith, most)
 
--- `marks % (1 << n)`
+-- `marks % (1 << n)` is below 2^16
 pub few_marks : (m n : ℕ) → n ≤ 16 → m % ((1 * 2 ^ n) % 2 ^ 64) < 2 ^ 16
 few_marks m n le =
     let most : 2 ^ n ≤ 2 ^ 16 = pow_mono le in
@@ -199,7 +199,7 @@ module _ (text bytes : List ℕ) (len : ℕ) (utf8 : IsUtf8 text) (is : bytes �
       ∙ picked_chars utf8_front.0 (take len text) (drop len bytes) utf8_front.1.1 utf8_front.1.0 (subst (Each1 (λ x. x < 224)) front_is (Each1-chunk (λ x. x < 224) 0 len bytes few))
       ∙ chars_from_encodes utf8_front.0 (take len text) utf8_front utf8_front.1.1
 
-  -- moving the characters of the front
+  -- appending the characters of the front of the text moves them
   pub moved_short : (before after : List ℕ) → after ≡ before ++ map short_char (pairs 16 (mask_l (map begins bytes) % 2 ^ len) bytes) → Moved before text after (drop len text)
   moved_short before after is_after =
       ap (λ t. t ++ chars (drop len text)) (is_after ∙ ap (λ t. before ++ t) front_chars) ∙ append_assoc before (chars (take len text)) (chars (drop len text))

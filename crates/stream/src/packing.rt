@@ -11,8 +11,8 @@ use std::simd::prelude::*;
 pub const LANES: usize = 4;
 
 // The indices of the bytes to keep, followed by zeros: one row for each combination of the lengths of four
-// lanes. Bits k and k + 4 of the row's index encode the length of lane k: bit k alone means two bytes, both
-// bits mean three, bit k + 4 alone means four, and neither means one. Each row is proved correct.
+// lanes. Bits k and k + 4 of the row's index encode the length of lane k. Bit k alone means two bytes, bit
+// k + 4 alone means four, both bits mean three, and neither means one. Each row is proved correct.
 static SHUFFLES: [[u8; 16]; 256] = [
     [0, 4, 8, 12, 0, 0, 0, 0, 0, 0, 0, 0, 0, 0, 0, 0],
     [0, 1, 4, 8, 12, 0, 0, 0, 0, 0, 0, 0, 0, 0, 0, 0],

@@ -47,7 +47,7 @@ level-append tables (x ∷ xs) ys =
     let first = first_strong_level (map (class_of tables) x) in
     ap (or_else first) (level-append tables xs ys) ∙ sym (or_assoc first (first_level tables xs) (first_level tables ys))
 
--- what a text shows, as a scanner collects it
+-- what a scanner collects from a text has the level of what the text shows
 pub level_shown : (rules : Rules) (text characters : List ℕ) (collected : StyledText) (level : Option ℕ) → styled_of collected ≡ styled START text
     → characters ≡ collected.characters.items → level ≡ first_level rules.tables (paragraphs (cut_by rules) characters) → level ≡ shown_level rules text
 unfolding shown_level
@@ -56,7 +56,7 @@ level_shown rules text characters collected level s c l =
     (c ∙ sym (text_characters collected) ∙ ap characters_of s ∙ shows_the_same START text)
 
 module _ (law : ParagraphsArePieces) (rules : Rules) where
-  -- the first block and the text after it
+  -- the level of a text is that of its first block or, if that has none, that of the rest
   pub level_split : (text block rest : List ℕ) → blocks (cut_by rules) text ≡ block ∷ blocks (cut_by rules) rest
       → shown_level rules text ≡ or_else (shown_level rules block) (shown_level rules rest)
   unfolding shown_level
@@ -72,7 +72,7 @@ module _ (law : ParagraphsArePieces) (rules : Rules) where
 
   -- the blocks before `start` show no strong character
   module _ (now : Rules) (same : now ≡ rules) (old : Searched) (text rest : List ℕ) (h : HasSearched rules old text) (r : rest ≡ drop old.start text) where
-    -- the next block
+    -- ---- the next block
     module _ (n : ℕ) (block : List ℕ) (first : IsFirst (cut_by now) n rest) (b : block ≡ take n rest) where
       first_is : IsFirst (cut_by rules) n (drop old.start text)
       first_is = subst (IsFirst (cut_by rules) n) r (subst (λ (q : Rules). IsFirst (cut_by q) n rest) same first)
@@ -80,7 +80,7 @@ module _ (law : ParagraphsArePieces) (rules : Rules) where
       block_is : take n (drop old.start text) ≡ block
       block_is = ap (take n) (sym r) ∙ sym b
 
-      -- the block decides, or else the text after it
+      -- the level is that of the block or, if that has none, that of the text after it
       pub level_found : (found : Option ℕ) → found ≡ shown_level now block → (more : List ℕ)
           → shown_level rules (text ++ more) ≡ or_else found (shown_level rules (drop n (drop old.start text) ++ more))
       level_found found f more =
@@ -106,7 +106,7 @@ module _ (law : ParagraphsArePieces) (rules : Rules) where
             passed = p (drop (new.scanned + 1) (drop new.start text));
           }
 
-    -- no more blocks have ended
+    -- `HasSearchedAll` holds if no more blocks have ended
     pub searched_all : (new : Searched) (n : ℕ) → IsOpen (cut_by now) n rest → HasPassed new.passed (drop (n + 1) rest) → new.start ≡ old.start → new.scanned ≡ n → HasSearchedAll rules new text
     searched_all new n o p s z =
         let rest_is : drop old.start text ≡ drop new.start text = ap (λ k. drop k text) (sym s) in
@@ -145,7 +145,7 @@ pub rest_level : (rules : Rules) (searched : Searched) (text : List ℕ) → Has
 rest_level rules searched text h =
     ap (shown_level rules) (sym (append-nil (drop searched.start text))) ∙ sym (h.level []) ∙ ap (shown_level rules) (append-nil text)
 
--- more text follows
+-- `HasSearched` still holds when more text follows
 searched_append : (rules : Rules) (searched : Searched) (text more : List ℕ) → HasSearched rules searched text → HasSearched rules searched (text ++ more)
 searched_append rules searched text more h =
     let rest = drop searched.start text in
@@ -168,7 +168,7 @@ searched_append rules searched text more h =
       passed = subst (λ t. HasPassed searched.passed (drop (searched.scanned + 1) t)) rest_is (held_passed searched.passed searched.scanned rest more within h.passed);
     }
 
--- the first characters of a text with more characters
+-- `HasSearched` also holds for the first characters of a text with more characters
 pub searched_cut : (rules : Rules) (searched : Searched) (text more all cut : List ℕ) → HasSearched rules searched text → length text < FIRST_CHARACTERS → all ≡ text ++ more
     → cut ≡ take FIRST_CHARACTERS all → HasSearched rules searched cut
 searched_cut rules searched text more all cut h few a c =
@@ -177,7 +177,7 @@ searched_cut rules searched text more all cut h few a c =
     let cut_is : cut ≡ text ++ take m more = c ∙ ap (take FIRST_CHARACTERS) a ∙ ap (λ k. take k (text ++ more)) count ∙ take-append-add text more m in
     subst (HasSearched rules searched) (sym cut_is) (searched_append rules searched text (take m more) h)
 
--- ---- the direction of a text that goes on, with few characters so far
+-- ---- the direction of a text that more characters follow
 pub known_early : (rules : Rules) (text : List ℕ) (level : ℕ) (base : Base) → length text ≤ FIRST_CHARACTERS → ((more : List ℕ) → shown_level rules (text ++ more) ≡ Some level)
     → base ≡ base_by (Some level) → (more : List ℕ) → base ≡ text_direction rules (text ++ more)
 known_early rules text level base few known b more =
@@ -186,13 +186,13 @@ known_early rules text level base few known b more =
     b ∙ ap base_by (sym (known (take m more))) ∙ ap (λ t. base_by (shown_level rules t)) (sym (take-append-add text more m))
     ∙ ap (λ k. base_by (shown_level rules (take k (text ++ more)))) count
 
--- and with as many as count
+-- if a text has as many characters as count, its direction is known whatever follows
 pub known_late : (rules : Rules) (text : List ℕ) (base : Base) → length text ≡ FIRST_CHARACTERS → base ≡ base_by (shown_level rules text)
     → (more : List ℕ) → base ≡ text_direction rules (text ++ more)
 known_late rules text base many b more =
     b ∙ ap (λ t. base_by (shown_level rules t)) (sym (take_all FIRST_CHARACTERS text (omega (arith, many))) ∙ sym (take-append-le FIRST_CHARACTERS text more (omega (arith, many))))
 
--- and with more
+-- a direction that is known for the first characters is known for the whole text
 pub known_cut : (rules : Rules) (text cut : List ℕ) (base : Base) → cut ≡ take FIRST_CHARACTERS text → ((more : List ℕ) → base ≡ text_direction rules (cut ++ more))
     → (more : List ℕ) → base ≡ text_direction rules (text ++ more)
 known_cut rules text cut base c known more =
@@ -216,7 +216,7 @@ whole_text escapes bytes text n waiting s w =
     ap (input_text escapes) (sym (append-nil bytes)) ∙ s.begins [] ∙ ap (λ t. text ++ text_after escapes s.started t) (append-nil (drop n bytes))
     ∙ ap (λ t. text ++ t) (end_text escapes s.started (drop n bytes) waiting (omega (arith, length-drop n bytes, w)) s.rest)
 
--- the direction of an input that goes on
+-- a direction that is known for the first characters is the direction of the input, whatever follows
 pub known_start : (rules : Rules) (escapes : Escapes) (bytes text cut : List ℕ) (n : ℕ) (base : Base) → StartsWith escapes bytes n text → cut ≡ take FIRST_CHARACTERS text
     → ((more : List ℕ) → base ≡ text_direction rules (cut ++ more)) → (more : List ℕ) → base ≡ direction_of rules escapes (bytes ++ more)
 known_start rules escapes bytes text cut n base s c known more =

@@ -93,14 +93,14 @@ module _ (is_cut : ℕ → ℕ → Bool) where
       first_block text k within (λ j below. ap (λ n. ends_block is_cut (get_or text j 0) (drop n text)) (next_is j) ∙ none j below)
       (ap (λ n. ends_block is_cut (get_or text k 0) (drop n text)) (next_is k) ∙ here) ∙ ap (λ n. take n text ∷ blocks is_cut (drop n text)) (next_is k)
 
-  -- where none ends, the text is one block
+  -- if no block ends in a text, the text is one block
   pub block_last : (text : List ℕ) → 0 < length text → ((j : ℕ) → j < length text → ends_block is_cut (get_or text j 0) (drop (j + 1) text) ≡ false)
       → blocks is_cut text ≡ take (length text) text ∷ blocks is_cut (drop (length text) text)
   block_last text some none =
       only_block text some (λ j below. ap (λ n. ends_block is_cut (get_or text j 0) (drop n text)) (next_is j) ∙ none j below)
       ∙ ap₂ (λ (x : List ℕ) (xs : List ℕ). x ∷ blocks is_cut xs) (sym (take_all (length text) text (omega arith))) (sym (drop_all (length text) text (omega arith)))
 
--- the last character of a front
+-- the last character of the first k + 1 characters is the text's character at k
 pub read_front : (text front : List ℕ) (k x : ℕ) → front ≡ take (k + 1) text → k < length text → x ≡ get_or front k x → x ≡ get_or text k 0
 read_front text front k x f within e =
     e ∙ ap (λ xs. get_or xs k x) f ∙ get_or-take (k + 1) text k x (omega arith) ∙ get_or_default text k x 0 within

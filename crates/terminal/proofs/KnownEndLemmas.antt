@@ -98,7 +98,7 @@ end_known rules c text more known =
     ]
 
 module _ (rules : Rules) where
-  -- one more character that ends no block
+  -- `AreNoEnds` still holds after one more character that ends no block
   pub no_end_more : (text : List ℕ) (k : ℕ) → AreNoEnds (cut_by rules) k text → (get_or text k 0 ≡ 13 → knows_next (drop (k + 1) text) ≡ true)
       → ends_block (cut_by rules) (get_or text k 0) (drop (k + 1) text) ≡ false → AreNoEnds (cut_by rules) (k + 1) text
   no_end_more text k none known here j below more =

@@ -14,7 +14,7 @@ use Rattle.stream.specs.Utf8.{is_bad}
 use lib.Utf8.{encode}
 use Rattle.terminal.specs.Decoding.{Decodes, IsAllDecoded, IsBeginning, IsDecoded, IsValidPrefix, good_part, lossy}
 
--- text at the front stays as it is
+-- valid text at the front is decoded unchanged
 pub lossy_after : (a b : List ℕ) → IsUtf8 a → utf8_lossy (a ++ b) ≡ a ++ utf8_lossy b
 lossy_after a b u = ⊎_elim
     (λ (v : IsUtf8 b). utf8_lossy-IsUtf8 (a ++ b) (IsUtf8-append a b u v) ∙ ap (λ t. a ++ t) (sym (utf8_lossy-IsUtf8 b v)))
@@ -74,7 +74,7 @@ lossy_error x more n none e =
     ∙ ap₂ (λ v t. chars (take v (x ++ more) ++ (replacement_bytes ++ utf8_lossy t))) zero_is rest
     ∙ after_replacement (utf8_lossy (drop n x ++ more))
 
--- at the end, so is an incomplete character
+-- at the end of the bytes, an incomplete character is U+FFFD too
 pub lossy_beginning : (x : List ℕ) → 0 < length x → utf8_valid_len x ≡ 0 → utf8_error_len x ≡ None → lossy x ≡ 0xFFFD ∷ []
 lossy_beginning x some none e =
     let len : utf8_invalid_len x ≡ length x = ap (λ (o : Option ℕ). unwrap_or o (length x)) e in
@@ -93,7 +93,7 @@ none_after x =
     ap utf8_valid_len (sym (take-append-drop v x)) ∙ utf8_valid_len-after (take v x) (drop v x) (utf8_front x) in
     omega (arith, whole, length-take-le v x (utf8_valid_len_le x))
 
--- the characters of the valid prefix
+-- the valid prefix is decoded as its characters, followed by the decoded rest
 lossy_valid : (x more : List ℕ) → lossy (x ++ more) ≡ chars (take (utf8_valid_len x) x) ++ lossy (drop (utf8_valid_len x) x ++ more)
 lossy_valid x more =
     let v = utf8_valid_len x in
@@ -108,7 +108,7 @@ text_len x text e = ap length e ∙ length-take-le (utf8_valid_len x) x (utf8_va
 pub decoded_none : (bytes before : List ℕ) → IsDecoded bytes 0 before before
 decoded_none bytes before = record { characters = []; added = sym (append-nil before); within = omega arith; text = λ more. refl }
 
--- the valid text at an index
+-- decoding the valid text at an index preserves `IsDecoded`
 pub decoded_text : (bytes rest before after new text : List ℕ) (at : ℕ) (error : Option ℕ) → IsDecoded bytes at before after → rest ≡ drop at bytes
     → IsValidPrefix rest text error → new ≡ after ++ chars text → IsDecoded bytes (at + length text) before new
 decoded_text bytes rest before after new text at error d r p e =
@@ -125,7 +125,7 @@ decoded_text bytes rest before after new text at error d r p e =
           ∙ ap (λ t. (d.characters ++ chars text) ++ lossy (t ++ more)) (sym next);
     }
 
--- all that can be decoded
+-- if the rest of the bytes has no error, all that can be decoded has been decoded
 pub all_decoded : (bytes rest before after new text : List ℕ) (at : ℕ) (error : Option ℕ) → IsDecoded bytes at before after → rest ≡ drop at bytes
     → IsValidPrefix rest text error → new ≡ after ++ chars text → error ≡ None → IsAllDecoded bytes (at + length text) before new
 all_decoded bytes rest before after new text at error d r p e none =
@@ -138,7 +138,7 @@ all_decoded bytes rest before after new text at error d r p e none =
       rest = subst IsBeginning next (record { none = none_after rest; fault = sym p.error_is ∙ none; few = omega (arith, few, length-drop v rest) });
     }
 
--- the invalid sequence after it
+-- decoding the invalid sequence after it as U+FFFD preserves `IsDecoded`
 pub decoded_error : (bytes rest before after new text last : List ℕ) (at n : ℕ) (error : Option ℕ) → IsDecoded bytes at before after → rest ≡ drop at bytes
     → IsValidPrefix rest text error → new ≡ after ++ chars text → error ≡ Some n → last ≡ new ++ 0xFFFD ∷ [] → IsDecoded bytes (at + length text + n) before last
 decoded_error bytes rest before after new text last at n error d r p e is added =
@@ -159,7 +159,7 @@ decoded_error bytes rest before after new text last at n error d r p e is added 
           ∙ ap (λ x. (t.characters ++ 0xFFFD ∷ []) ++ lossy (x ++ more)) (drop-drop n k bytes);
     }
 
--- where an invalid sequence ends
+-- an invalid sequence is not empty, and ends at or before the end of the bytes
 pub error_bounds : (bytes rest text : List ℕ) (at n : ℕ) (error : Option ℕ) → at ≤ length bytes → rest ≡ drop at bytes → IsValidPrefix rest text error → error ≡ Some n
     → (0 < n) × (at + length text + n ≤ length bytes)
 error_bounds bytes rest text at n error within r p is =
@@ -169,7 +169,7 @@ error_bounds bytes rest text at n error within r p is =
       omega (arith, bounds.1, length-drop v rest, utf8_valid_len_le rest, text_len rest text p.text_is, ap length r, length-drop at bytes, within),
     )
 
--- bytes without errors
+-- if the bytes have no error, at most an incomplete character at their end is not decoded
 pub front_decoded : (bytes text before new : List ℕ) (bad : Bool) → text ≡ take (utf8_valid_len bytes) bytes → bad ≡ is_bad bytes → bad ≡ false
     → (bad ≡ false → length bytes < utf8_valid_len bytes + 4) → new ≡ before ++ chars text → IsAllDecoded bytes (length text) before new
 front_decoded bytes text before new bad t b good few e =
@@ -212,7 +212,7 @@ good_take bytes =
       | inr n ↦ ap (take v) (good_whole true bytes n)
     ]
 
--- valid text
+-- the longest valid prefix is decoded as its characters, whatever bytes follow
 pub lossy_front : (bytes more : List ℕ) → lossy (take (utf8_valid_len bytes) bytes ++ more) ≡ chars (take (utf8_valid_len bytes) bytes) ++ lossy more
 lossy_front bytes more =
     let front = take (utf8_valid_len bytes) bytes in
@@ -242,11 +242,11 @@ front_decodes bad bytes text before new t b few e = record {
         subst (λ (x : List ℕ). IsAllDecoded x (length text) before new) (sym (good_front true bytes (sym b)))
         (front_decoded front text before new false text_is (whole_good front u) refl (λ _. omega (arith, utf8_valid_len-IsUtf8 front u)) e)
 
--- bytes with errors that are read as U+FFFD
+-- `Decodes` holds for bytes whose errors are read as U+FFFD
 pub lossy_decodes : (bytes before new : List ℕ) (n : ℕ) → IsAllDecoded bytes n before new → Decodes false bytes n false before new
 lossy_decodes bytes before new n all = record { all = all; stops_is = refl; within = all.decoded.within; valid = λ s. absurd cc }
 
--- the bytes of a chunk up to an error
+-- the bytes up to the computed end are the good part of the chunk
 pub ended_part : (strict stops : Bool) (chunk : List ℕ) (filled n end : ℕ) → end ≡ (if stops then n else filled) → stops ≡ (strict && is_bad (take filled chunk))
     → (strict ≡ true → n ≡ utf8_valid_len (take filled chunk)) → n ≤ length (take filled chunk) → filled ≤ length chunk → take end chunk ≡ good_part strict (take filled chunk)
 ended_part strict false chunk filled n end e s valid small within = ap (λ k. take k chunk) e ∙ sym (good_whole strict (take filled chunk) (sym s))

@@ -269,7 +269,7 @@ module _ (rules : Rules) (form : Form) where
           (ends-nil 10 (block_page rules form p) (block_ends p (omega (arith, some, length-append p (joined parts), ap length e))))
       by_rest later (c ∷ rest) e = ends-append 10 (block_page rules form p) _ (later (omega (arith, ap length e)))
 
-  -- what a text shows, counted by blocks
+  -- the characters shown in all blocks are as many as those that the text shows
   pub count_shown : (pen : Pen) (text : List ℕ) → length (joined (shown_blocks pen (blocks (cut_by rules) text))) ≡ length (shown_text text)
   count_shown pen text =
       sym (length-map (joined (shown_blocks pen (blocks (cut_by rules) text))) (λ (c : ℕ × Style). c.0))

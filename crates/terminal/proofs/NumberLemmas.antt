@@ -15,13 +15,13 @@ module _ (links : List ℕ) (runs : List StyleRun) where
   pub numbered-run : (n : ℕ) (d : StyleRun) → n < length runs → numbered links runs (suc n) ≡ style_in links (get_or runs n d)
   numbered-run n d within = ap (λ o. option_map_or (style_in links) o DEFAULT) (slice_get-get_or runs n d within)
 
-  -- the style at a position, given the numbers
+  -- the style at a position is the one with the number at this position
   pub numbered-on : (numbers : List ℕ) (k : ℕ) → style_on (map (numbered links runs) numbers) k ≡ numbered links runs (get_or numbers k 0)
   numbered-on [] k = refl
   numbered-on (n ∷ numbers) zero = refl
   numbered-on (n ∷ numbers) (suc k) = numbered-on numbers k
 
-  -- the style after one more run
+  -- one more run sets the style from its start on
   style_at-push : (style : Style) (rs : List StyleRun) (run : StyleRun) (k : ℕ)
       → style_at links style (rs ++ run ∷ []) k ≡ (if nat_le run.start k then style_in links run else style_at links style rs k)
   style_at-push style [] run k = refl
@@ -93,7 +93,7 @@ module _ (links : List ℕ) (runs : List StyleRun) where
     known = at.known;
   }
 
-  -- characters and styles that belong together
+  -- ---- characters and styles that belong together
   pub characters-with : (n : ℕ) (characters : List ℕ) → map (λ c. c.0) (with_styles links runs n characters) ≡ characters
   characters-with n [] = refl
   characters-with n (c ∷ characters) = ap (λ xs. c ∷ xs) (characters-with (n + 1) characters)
@@ -121,7 +121,7 @@ module _ (links : List ℕ) (runs : List StyleRun) where
       get_or-map (numbered links runs) numbers k 0 DEFAULT (omega (arith, below, same)) ∙ each k below
       ∙ sym (styles-at 0 k characters below ∙ ap (style_at links DEFAULT runs) zero_k))
 
--- what a list is after its items were written as a slice
+-- after its items have been written as a slice, a list holds the written items
 pub written_back : (len : ℕ) (new items : List ℕ) → length new ≡ length items → length items ≤ len → take len (new ++ drop (length new) items) ≡ new
 written_back len new items same e =
     ap (λ xs. take len (new ++ xs)) (drop_all (length new) items (omega (arith, same))) ∙ ap (take len) (append-nil new) ∙ take_all len new (omega (arith, same, e))

@@ -11,7 +11,7 @@ use Rattle.lines.proofs.VisualLemmas.{lines_within}
 use Rattle.terminal.proofs.BlockLemmas.{zeros_are}
 use Rattle.terminal.proofs.PlainLemmas.{plain_characters}
 
--- without styles
+-- if all style numbers of a part are 0, it is printed as in the default style
 pub plain_part : (rules : Rules) (width : ℕ) (print : Print) (part : Part) → length part.numbers.now ≡ length part.characters.now
     → ((k : ℕ) → k < length part.numbers.now → get_or part.numbers.now k 0 ≡ 0)
     → styled_paragraph rules width print (in_style DEFAULT part.characters.now)
@@ -20,7 +20,7 @@ plain_part rules width print part same zero_at =
     ap₂ (styled_bytes None rules width print) (plain_characters part.characters.now)
     (sym (zeros_are part.text.now.links.items part.text.now.runs.items part.numbers.now part.characters.now same zero_at))
 
--- what was laid out and written
+-- the UTF-8 of the written layout is `styled_bytes` of the text
 pub bytes_are : (prefix : Option LinePrefix) (rules : Rules) (width : ℕ) (print : Print) (text : List ℕ) (styles : List Style) (layout : Layout) (out : List ℕ)
     → layout ≡ layout_of rules width text → out ≡ styled_layout prefix width print layout styles
     → encode_utf8_all out ≡ styled_bytes prefix rules width print text styles

@@ -49,7 +49,7 @@ control_skips text some e dropped sure =
     skips_by text 1 (omega (arith, some)) (λ more. control_skipped (text ++ more) (some_more text more some) (none more) (first more))
     (λ more. control_known (text ++ more) (some_more text more some) (none more) (first more)) sure
 
--- a part that is not known
+-- if the sequence at the start of a text is not known, neither is the next character
 pub unsure_next : (text : List ℕ) → 0 < length text → knows_sequence text ≡ false → knows_next text ≡ false
 unsure_next [] some unsure = absurd (omega (arith, some))
 unsure_next (c ∷ text) some unsure =
@@ -116,7 +116,7 @@ module _ (old new : Passed) (text part : List ℕ) (h : HasPassed old text) (p :
         progress = q ∙ scanned_all more m ∙ ap (after_all Start) (sym whole);
       }
 
-  -- whether the part is known then
+  -- the progress shows whether the part is known then
   pub scanned_knows : (more : List ℕ) → more ≡ drop old.scanned part → knows_sequence part ≡ is_known (after_all old.progress more)
   scanned_knows more m = sym (start_tells part) ∙ ap is_known (sym (scanned_all more m))
 
@@ -141,7 +141,7 @@ passed_append passed text more h =
           ∙ take-append-le passed.scanned (drop passed.start text) more (omega (arith, h.within, length-drop passed.start text))));
     }
 
--- the text after a character, which need not be there yet
+-- `HasPassed` still holds for the text after a character when more text follows
 pub held_passed : (passed : Passed) (n : ℕ) (text more : List ℕ) → n ≤ length text → HasPassed passed (drop (n + 1) text) → HasPassed passed (drop (n + 1) (text ++ more))
 held_passed passed n text more within h =
     elim (cases_lt n (length text)) [

@@ -39,7 +39,7 @@ pieces_some (c ∷ text) some =
     let rest = drop 1048576 (c ∷ text) in
     ap (λ ps. take 1048576 (c ∷ text) ∷ ps) (enough (length text) (length rest) rest (omega (arith, length-drop 1048576 (c ∷ text))) (omega arith))
 
--- the piece at an index
+-- the next piece of a text ends at the computed index
 pub next_piece : {A : Type 0} (text : List A) (at end : ℕ) → at < length text → ((end ≡ length text) × (length text - at ≤ 1048576)) ⊎ (end ≡ at + 1048576)
     → pieces (drop at text) ≡ take (end - at) (drop at text) ∷ pieces (drop end text)
 next_piece text at end within (inl (all, short)) =
@@ -97,14 +97,14 @@ module _ (rules : Rules) (form : Form) where
       ++ flat_map (printed_paragraph (in_direction rules (base_of rules (characters_of first))) form) rest) (take_all 1048576 shown short) none
       ∙ append-nil (printed_paragraph rules form shown)
 
-  -- the same for a paragraph whose characters and styles are given
+  -- the same holds for a paragraph whose characters and styles are given
   pub whole_piece : (text : List ℕ) (styles : List Style) (shown : List (ℕ × Style)) (old new : List ℕ) → text ≡ characters_of shown → styles_of shown ≡ styles → length text ≤ 1048576
       → new ≡ old ++ printed_bytes rules form text styles → new ≡ old ++ printed_pieces rules form shown
   whole_piece text styles shown old new same s short e =
       let count : length text ≡ length shown = ap length same ∙ length-map shown (λ (c : ℕ × Style). c.0) in
       e ∙ ap (λ t. old ++ t) (ap₂ (printed_bytes rules form) same (sym s) ∙ sym (pieces_short shown (omega (arith, count, short))))
 
-  -- one over the limit
+  -- the same holds for a paragraph that is over the limit
   pub pieces_are : (now : Rules) (shown : List (ℕ × Style)) (first : List ℕ) (base : ℕ) (old mid new : List ℕ) → now ≡ rules → first ≡ characters_of (take 1048576 shown)
       → base ≡ base_of rules first → mid ≡ old ++ printed_paragraph rules form (take 1048576 shown)
       → new ≡ mid ++ printed_each (in_direction now base) form (drop 1048576 shown) → new ≡ old ++ printed_pieces rules form shown
@@ -114,13 +114,13 @@ module _ (rules : Rules) (form : Form) where
       ap₂ in_direction n (b ∙ ap (base_of rules) f) in
       e ∙ ap₂ (λ (t : List ℕ) (r : Rules). t ++ printed_each r form (drop 1048576 shown)) m direction ∙ append_assoc old _ _
 
-  -- when no piece is left
+  -- if no piece is left, all pieces have been printed
   pub last_each : (shown : List (ℕ × Style)) (at : ℕ) (old all : List ℕ) → length shown ≤ at → old ++ printed_each rules form (drop at shown) ≡ all → old ≡ all
   last_each shown at old all end h =
       sym (append-nil old)
       ∙ ap (λ (ps : List (List (ℕ × Style))). old ++ flat_map (printed_paragraph rules form) ps) (sym (pieces_none (drop at shown) (omega (arith, end, length-drop at shown)))) ∙ h
 
--- one more piece
+-- ---- one more piece
 pub next_each : (rules now : Rules) (form : Form) → now ≡ rules → (shown : List (ℕ × Style)) (at end : ℕ) (old new all : List ℕ)
     → pieces (drop at shown) ≡ take (end - at) (drop at shown) ∷ pieces (drop end shown) → new ≡ old ++ printed_paragraph now form (take (end - at) (drop at shown))
     → old ++ printed_each rules form (drop at shown) ≡ all → new ++ printed_each rules form (drop end shown) ≡ all

@@ -54,13 +54,13 @@ ltr_encoded : encode_utf8_all (codes "LTR\n") ≡ codes "LTR\n"
 unfolding encode_utf8
 ltr_encoded = refl
 
--- a choice between two texts that are their own bytes
+-- if two texts are their own UTF-8, so is a choice between them
 choice_encoded : (b : Bool) (xs ys : List ℕ) → encode_utf8_all xs ≡ xs → encode_utf8_all ys ≡ ys → encode_utf8_all (if b then xs else ys) ≡ (if b then xs else ys)
 choice_encoded true xs ys e f = e
 choice_encoded false xs ys e f = f
 
 module _ (visual : Visual) (styles : List Style) (plain : (k : ℕ) → style_on styles k ≡ DEFAULT) where
-  -- one character
+  -- ---- one character
   cells_same : (c k : ℕ) (chars vtol cs : List ℕ) → line_cells visual c k ≡ cs
       → written_after DEFAULT (styled_chars visual styles (c ∷ chars) (k ∷ vtol)) ≡ cs ++ written_after DEFAULT (styled_chars visual styles chars vtol)
   cells_same c k chars vtol cs e =
@@ -165,7 +165,7 @@ flat_same f g k (line ∷ lines) aligned each =
     encoded-append (f (k, line)) (flat_map f (enumerate_from (k + 1) lines))
     ∙ ap₂ (λ (xs ys : List ℕ). xs ++ ys) (each k line aligned.0) (flat_same f g (k + 1) lines aligned.1 each)
 
--- the default style everywhere
+-- text in the default style has this style at each position
 plain_styles : (text : List ℕ) (k : ℕ) → get_or (styles_of (in_style DEFAULT text)) k DEFAULT ≡ DEFAULT
 plain_styles [] k = refl
 plain_styles (c ∷ text) zero = refl

@@ -34,7 +34,7 @@ use Rattle.terminal.proofs.BlockLemmas.{styles_range}
 
 -- ---- patterns
 
--- one more character as UTF-8
+-- appending the UTF-8 of the character at i yields the UTF-8 of the first i + 1 characters
 pub encoded_more : (text : List ℕ) (i c : ℕ) (old new : List ℕ) → i < length text → c ≡ get_or text i c → new ≡ old ++ encode_utf8 c
     → old ≡ encode_utf8_all (take i text) → new ≡ encode_utf8_all (take (i + 1) text)
 encoded_more text i c old new within is n o =
@@ -143,7 +143,7 @@ first_start rules width text line e =
 zero_left : (k : ℕ) → 0 + k ≡ k
 zero_left k = omega arith
 
--- the characters of a prefix's line
+-- the characters of a prefix's line are the first characters of the text
 pub prefix_text : (rules : Rules) (width wide : ℕ) (text : List ℕ) (layout : Layout) (visual : Visual) → layout ≡ layout_of rules wide text
     → Some visual ≡ narrow_line width (visuals layout) → visual.text ≡ slice_range text 0 (length visual.levels)
 prefix_text rules width wide text layout visual l e =
@@ -187,7 +187,7 @@ pub or_one-none : {A : Type 0} (a : A) (xs : List A) → length xs ≡ 0 → or_
 or_one-none a [] none = refl
 or_one-none a (x ∷ xs) none = absurd (omega (arith, none))
 
--- the styles of what follows a prefix
+-- the styles of what follows a prefix are the styles from the end of the prefix on
 pub after_some : (part own : Part) (start end : ℕ) → length part.numbers.now ≡ end → start < end → own.numbers.now ≡ slice_range part.numbers.now start end
     → own.text.now ≡ part.text.now → styles_in own ≡ or_one DEFAULT (drop start (styles_in part))
 after_some part own start end len more n t =

@@ -69,13 +69,13 @@ at_most k e = grind (arith, nat_tests)
 more_than : (k : ℕ) → nat_lt 1048576 k ≡ true → 1048576 < k
 more_than k e = grind (arith, nat_tests)
 
--- a block that does not end the run
+-- a block that is not too long does not end the run
 pub permit_one : (form : Form) (block : List ℕ) (k : ℕ) (long : Bool) → long ≡ (form.strict && nat_lt 1048576 k) → long ≡ false → length block ≡ k → ArePermitted form (block ∷ [])
 permit_one form block k long e free len is =
     let short : nat_lt 1048576 k ≡ false = ap (λ (b : Bool). b && nat_lt 1048576 k) (sym is) ∙ sym e ∙ free in
     ap (λ (b : Bool). b && true) (short_is block (omega (arith, len, at_most k short)))
 
--- a block that ends the run
+-- a block that ends the run is over the limit, and the form is strict
 pub refuse_one : (form : Form) (k : ℕ) (long : Bool) → long ≡ (form.strict && nat_lt 1048576 k) → long ≡ true → (form.strict ≡ true) × (1048576 < k)
 refuse_one form k long e holds =
     let both = and_parts form.strict (nat_lt 1048576 k) (sym e ∙ holds) in
@@ -165,7 +165,7 @@ added_one rules now form text rest block old mid new start k e h r first permit 
 abbrev pub IsHolding : Bool → List ℕ → ℕ → Type 0
 IsHolding strict text start = strict ≡ true → length text ≤ start → length text ≡ 0
 
--- whether a block is held back
+-- ---- whether a block is held back
 not_equal : (a b : ℕ) → (a == b) ≡ false → a ≡ b → ⊥
 not_equal a b e same = grind (arith, nat_tests)
 

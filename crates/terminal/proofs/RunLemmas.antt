@@ -38,7 +38,7 @@ use Rattle.terminal.proofs.Devices.{Consumes-append, Consumes-kept, FailedLast-a
 
 -- ---- valid UTF-8
 
--- one more chunk
+-- `IsValidSoFar` still holds after one more chunk has been decoded
 valid_more : (escapes : Escapes) (bytes chunk waiting waiting_new text characters text_new : List ℕ) (started started_new : Bool) → IsValidSoFar escapes bytes waiting text started
     → IsValidText escapes (waiting ++ chunk) waiting_new characters started started_new → text_new ≡ text ++ characters → IsValidSoFar escapes (bytes ++ chunk) waiting_new text_new started_new
 valid_more escapes bytes chunk waiting waiting_new text characters text_new started started_new s t e =
@@ -124,7 +124,7 @@ module _ (rules : Rules) (form : Form) (bytes : List ℕ) (sent : List (List ℕ
     permitted = fed.permitted;
   }
 
-  -- the blocks of the whole text, if nothing follows
+  -- if nothing follows, the blocks of the whole text are those that were sent and those of the rest
   pub fed_blocks : (n : ℕ) → length waiting ≡ n → blocks (cut_by rules) (input_text form.escapes bytes) ≡ sent ++ blocks (cut_by rules) (text ++ last_characters n)
   fed_blocks n len =
       let all : input_text form.escapes bytes ≡ (concat sent ++ text) ++ last_characters n =
@@ -132,14 +132,14 @@ module _ (rules : Rules) (form : Form) (bytes : List ℕ) (sent : List (List ℕ
       ∙ ap (λ t. (concat sent ++ text) ++ t) (ap (text_after form.escapes started) (append-nil waiting) ∙ end_text form.escapes started waiting n len fed.beginning) in
       ap (blocks (cut_by rules)) all ∙ fed.cuts (last_characters n)
 
-  -- and its lines
+  -- the page of the whole input is that of the sent blocks, followed by that of the remaining text
   pub fed_page : (n : ℕ) (pen : Pen) → length waiting ≡ n → pen ≡ pen_after_blocks START sent
       → input_page rules form bytes ≡ blocks_page rules form sent ++ text_page rules form pen (text ++ last_characters n)
   fed_page n pen len pen_is =
       ap (pages rules form START) (fed_blocks n len) ∙ pages-append rules form START sent (blocks (cut_by rules) (text ++ last_characters n))
       ∙ ap (λ (q : Pen). blocks_page rules form sent ++ text_page rules form q (text ++ last_characters n)) (sym pen_is)
 
-  -- the same before the waiting bytes
+  -- `IsFed` also holds for the bytes before the waiting ones
   pub fed_front : (v : IsValidSoFar form.escapes bytes waiting (concat sent ++ text) started) → IsFed rules form v.front sent [] text started
   fed_front v = record {
     decoded = v.decoded;
@@ -149,7 +149,7 @@ module _ (rules : Rules) (form : Form) (bytes : List ℕ) (sent : List (List ℕ
     valid = λ is. record { front = v.front; whole = sym (append-nil v.front); utf8 = v.utf8; decoded = v.decoded };
   }
 
-  -- a chunk was decoded, and the first blocks of the text were taken
+  -- `IsFed` still holds after a chunk was decoded and the first blocks of the text were taken
   pub fed_more : (chunk waiting_new all text_new characters : List ℕ) (started_new : Bool) (parts : List (List ℕ))
       → ((more : List ℕ) → text_after form.escapes started ((waiting ++ chunk) ++ more) ≡ characters ++ text_after form.escapes started_new (waiting_new ++ more))
       → IsBeginning waiting_new → all ≡ text ++ characters → IsFront (cut_by rules) parts all text_new → ArePermitted form parts
@@ -209,12 +209,12 @@ fed_read rules form bytes sent waiting text started fed chunk waiting_new all te
     same : (form.strict && is_bad (bytes ++ chunk)) ≡ (form.strict && is_bad (waiting ++ chunk))
     same = same_bad form.strict form.escapes bytes chunk waiting (concat sent ++ text) started fed.valid
 
--- the lines of some more blocks
+-- the page of some more blocks is appended to the page of the blocks before them
 pub more_page : (rules : Rules) (form : Form) (sent parts : List (List ℕ)) (pen : Pen) → pen ≡ pen_after_blocks START sent
     → blocks_page rules form (sent ++ parts) ≡ blocks_page rules form sent ++ pages rules form pen parts
 more_page rules form sent parts pen e = pages-append rules form START sent parts ∙ ap (λ (q : Pen). blocks_page rules form sent ++ pages rules form q parts) (sym e)
 
--- the sink failed within some lines, after others were written
+-- if the sink failed within some lines, after others were written, it failed within all these lines
 pub stopped_after : (front lines : List ℕ) (m n : ℕ) (old mid new : Device) → Wrote front old mid → StoppedAt m lines mid new → n ≡ length front + m → StoppedAt n (front ++ lines) old new
 stopped_after front lines m n old mid new wrote stopped n_is =
     let taken : take n (front ++ lines) ≡ front ++ take m lines = ap (λ k. take k (front ++ lines)) n_is ∙ take-append-add front lines m in (
@@ -224,7 +224,7 @@ stopped_after front lines m n old mid new wrote stopped n_is =
     )
 
 module _ (rules : Rules) (form : Form) (is_last : Bool) (reader_old writer_old reader writer : Device) (held : Held) (s : Stands rules form reader_old writer_old reader writer held) where
-  -- all blocks that had ended before some more bytes were written
+  -- what was written includes all blocks that had ended before the latest bytes were read
   first_by : (late more : List ℕ) (writer_new : Device) → length late ≤ CHUNK → Took writer_old writer_new (blocks_page rules form s.is_at.sent ++ more)
       → WritesFirst rules form (s.is_at.bytes ++ late) writer_old writer_new
   first_by late more writer_new few took = record {
@@ -244,7 +244,8 @@ module _ (rules : Rules) (form : Form) (is_last : Bool) (reader_old writer_old r
     took = took;
   }
 
-  -- paragraphs over the limit, in what was written and in more blocks
+  -- a paragraph in what was written or in more blocks is over the limit if and only if one in all these
+  -- blocks is
   all_over : (parts : List (List ℕ)) → (held.output.over || have_over rules (pen_of held.output.scanner) parts) ≡ have_over rules START (s.is_at.sent ++ parts)
   all_over parts =
       ap₂ (λ (b : Bool) (q : Pen). b || have_over rules q parts) s.is_at.over_is s.is_at.pen_is ∙ sym (over-append rules START s.is_at.sent parts)
@@ -252,7 +253,7 @@ module _ (rules : Rules) (form : Form) (is_last : Bool) (reader_old writer_old r
   took_sent : Took writer_old writer (blocks_page rules form s.is_at.sent ++ [])
   took_sent = subst (Took writer_old writer) (sym (append-nil (blocks_page rules form s.is_at.sent))) s.is_at.wrote.0
 
-  -- a failed read
+  -- if a read fails, the run ends with `Read`
   pub ends_read : (reader_new : Device) → Fails reader reader_new → IsRun rules form is_last reader_old reader_new writer_old writer (Err f.Read)
   unfolding first_by
   ends_read reader_new fails = (
@@ -267,7 +268,7 @@ module _ (rules : Rules) (form : Form) (is_last : Bool) (reader_old writer_old r
     ),
   )
 
-  -- a chunk was read
+  -- ---- a chunk was read
   module _ (reader_new : Device) (chunk : List ℕ) (consumed : Consumes reader.bytes reader_new.bytes chunk) (passed : reader_new.passed ≡ reader.passed + length chunk)
       (few : length chunk ≤ CHUNK) where
     has_read : HasRead reader_old reader_new (s.is_at.bytes ++ chunk)
@@ -276,12 +277,12 @@ module _ (rules : Rules) (form : Form) (is_last : Bool) (reader_old writer_old r
       omega (arith, passed, s.is_at.read.1, length-append s.is_at.bytes chunk),
     )
 
-    -- an allocation failed
+    -- if an allocation fails, the run ends with `Memory`
     pub ends_memory : IsRun rules form is_last reader_old reader_new writer_old writer (Err f.Memory)
     unfolding first_by
     ends_memory = (s.is_at.bytes ++ chunk, has_read, (first_by chunk [] writer few took_sent, s.is_at.wrote))
 
-    -- the sink failed within some lines
+    -- if the sink fails within some lines, it has taken what was written before and a part of these lines
     took_part : (lines : List ℕ) (m : ℕ) (writer_new : Device) → StoppedAt m lines writer writer_new → Took writer_old writer_new (blocks_page rules form s.is_at.sent ++ take m lines)
     took_part lines m writer_new stopped = Took-append writer_old writer writer_new (blocks_page rules form s.is_at.sent) (take m lines) s.is_at.wrote.0 stopped.1
 
@@ -330,7 +331,7 @@ module _ (rules : Rules) (form : Form) (is_last : Bool) (reader_old writer_old r
         ),
       )
 
-      -- it is not UTF-8
+      -- if the input is not UTF-8, the run ends with `NotUtf8`
       pub ends_bad : (writer_new : Device) (n upto : ℕ) → Wrote (pages rules form (pen_of held.output.scanner) parts) writer writer_new → form.strict ≡ true
           → is_bad (s.is_at.bytes ++ chunk) ≡ true → n ≡ utf8_valid_len (s.is_at.bytes ++ chunk) → IsLeft (cut_by rules) form.strict upto text_new
           → (form.strict ≡ true → length text_new ≡ 0 → length (s.is_at.sent ++ parts) ≡ 0)
@@ -464,7 +465,7 @@ module _ (rules : Rules) (form : Form) (is_last : Bool) (reader_old writer_old r
     pub finish_memory : IsRun rules form is_last reader_old reader_new writer_old writer (Err f.Memory)
     finish_memory = ends_memory reader_new [] consumed passed (omega arith)
 
-    -- the last blocks up to one that is too long
+    -- ---- the last blocks up to one that is too long
     module _ (parts others : List (List ℕ)) (first : List ℕ)
         (cuts : blocks (cut_by rules) (held.text.items ++ last_characters held.decoder.waiting) ≡ parts ++ first ∷ others) (strict : form.strict ≡ true) (within : are_within parts ≡ true)
         (long : 1048577 ≤ length first) where
@@ -545,7 +546,7 @@ fed_none rules form = record {
   valid = λ is. record { front = []; whole = refl; utf8 = ([], (refl, refl)); decoded = λ more. input_is form.escapes more };
 }
 
--- where no block has ended
+-- the position up to which no block has ended is at most the length of the text
 pub left_within : (rules : Rules) (holds : Bool) (n : ℕ) (text : List ℕ) → IsLeft (cut_by rules) holds n text → n ≤ length text
 left_within rules holds n text (inl o) = o.within
 left_within rules holds n text (inr (is, h)) = omega (arith, h.last)

@@ -23,7 +23,7 @@ use Rattle.terminal.specs.declared.start.Search.{Search}
 use Rattle.terminal.proofs.Devices.{Consumes-append, Consumes-kept, FailedLast-after}
 use Rattle.terminal.proofs.RunLemmas.{Consumes-refl, end_few, end_text, input_is}
 
--- nothing was read yet
+-- `Searches` holds before anything is read
 pub searches_new : (rules : Rules) (escapes : Escapes) (reader : Device) (search : Search) → vec_len search.decoder.chunk ≡ CHUNK → search.decoder.waiting ≡ 0 → search.decoder.decoded ≡ 0
     → search.decoder.started ≡ false → search.bytes.items ≡ [] → search.text.items ≡ [] → HasSearched rules search.searched search.text.items → Searches rules escapes reader reader search
 searches_new rules escapes reader search room w d b bytes text h =
@@ -56,7 +56,7 @@ module _ (rules : Rules) (escapes : Escapes) (reader_old reader : Device) (searc
   abbrev waiting : List ℕ
   waiting = take search.decoder.waiting search.decoder.chunk.items
 
-  -- the characters of the waiting bytes at the end of an input
+  -- at the end of an input, the waiting bytes are decoded as the last characters
   end_is : text_after escapes search.decoder.started (waiting ++ []) ≡ last_characters search.decoder.waiting
   end_is = ap (text_after escapes search.decoder.started) (append-nil waiting) ∙ end_text escapes search.decoder.started waiting search.decoder.waiting s.waits s.beginning
 
@@ -76,7 +76,7 @@ module _ (rules : Rules) (escapes : Escapes) (reader_old reader : Device) (searc
     few = omega (arith, s.few, ap length s.searched.searched.front.whole);
   }
 
-  -- the direction if nothing follows
+  -- if nothing follows, the direction is that of the collected text
   whole : text_direction rules (search.text.items ++ last_characters search.decoder.waiting) ≡ direction_of rules escapes search.bytes.items
   whole =
       ap (text_direction rules) (ap (λ t. search.text.items ++ t) (sym end_is) ∙ sym (s.decoded []) ∙ ap (input_text escapes) (append-nil search.bytes.items))
@@ -84,7 +84,7 @@ module _ (rules : Rules) (escapes : Escapes) (reader_old reader : Device) (searc
   here : StopsEarly rules escapes search.bytes.items
   here = record { early = search.bytes.items; late = []; parts = sym (append-nil search.bytes.items); chunk = omega arith; unknown = unknown }
 
-  -- the source failed
+  -- if the source fails, the base direction is that of the text read so far
   pub search_failed : (reader_new : Device) (bytes : List ℕ) (waiting_new : ℕ) (base : Base) → Fails reader reader_new → waiting_new ≡ search.decoder.waiting → bytes ≡ search.bytes.items
       → base ≡ text_direction rules (search.text.items ++ last_characters waiting_new) → IsStart rules escapes bytes base false reader_old reader_new
   search_failed reader_new bytes waiting_new base f w same b =

@@ -28,7 +28,7 @@ use Rattle.terminal.specs.declared.output.Output.{Output}
 use Rattle.terminal.proofs.LossyLemmas.{good_front, good_len, good_whole}
 use Rattle.terminal.proofs.RunLemmas.{at_new, ends_bad, ends_long, ends_memory, ends_write, fed_read, finish_bad, finish_long, finish_memory, finish_ok, finish_stopped, finish_stopped_long, same_bad}
 
--- why a run goes on or ends after a chunk
+-- ---- why a run goes on or ends after a chunk
 none_is : (is_long stops : Bool) (n : ℕ) → None ≡ fault_after is_long stops n → (is_long ≡ false) × (stops ≡ false)
 none_is true stops n e = absurd cc
 none_is false true n e = absurd cc
@@ -149,7 +149,7 @@ module _ (rules : Rules) (form : Form) (is_last : Bool) (reader_old writer_old r
         (omega (arith, g.takes.counts, none, decoded_same, s.counts, front_is, good_len_is, valid))
         (subst (λ (b : Bool). Leaves rules form.strict b new.scanned new.text.items) short g.leaves) holds_new
 
-    -- why the run ends
+    -- if there is a fault, the run ends with it
     pub step_stop : (writer_new : Device) (wrong : Fault) → Wrote new.output.page.bytes.items writer writer_new → fault ≡ Some wrong
         → IsRun rules form is_last reader_old reader_new writer_old writer_new (Err wrong)
     step_stop writer_new wrong wrote is =

@@ -22,13 +22,13 @@ pub written-one : (before style : Style) (chars : List ℕ) (more : List (ℕ ×
 written-one before style [] more some = absurd (omega (arith, some))
 written-one before style (c ∷ chars) more some = ap (λ xs. between before style ++ c ∷ xs) (written-same style chars more)
 
--- characters that are appended one after the other
+-- appending characters and then others appends both, one after the other
 pub appends_both : (old mid new : List ℕ) (before style last : Style) (xs ys : List (ℕ × Style)) → Appends old mid before style xs → Appends mid new style last ys
     → Appends old new before last (xs ++ ys)
 appends_both old mid new before style last xs ys first second = λ more.
     second more ∙ first (ys ++ more) ∙ ap (λ zs. old ++ written_after before zs) (sym (append_assoc xs ys more))
 
--- spaces after what sets their style
+-- appending the change of style and then spaces appends spaces in this style
 pub appends_spaces : (old mid new spaces : List ℕ) (before style : Style) → 0 < length spaces → mid ≡ old ++ between before style → new ≡ mid ++ spaces
     → Appends old new before style (in_style style spaces)
 appends_spaces old mid new spaces before style some m n = λ more.
@@ -37,7 +37,7 @@ appends_spaces old mid new spaces before style some m n = λ more.
     ∙ ap (λ xs. old ++ xs) (append_assoc (between before style) spaces (written_after style more) ∙ sym (written-one before style spaces more some))
 
 module _ (visual : Visual) (styles : List Style) (more : List (ℕ × Style)) where
-  -- one more character of a line
+  -- ---- one more character of a line
   pub step_line : (chars vtol : List ℕ) (at : ℕ) (before style : Style) (old new all cells : List ℕ) → at < length chars → at < length vtol
       → style ≡ style_on styles (get_or vtol at 0) → cells ≡ line_cells visual (get_or chars at 0) (get_or vtol at 0) → 0 < length cells
       → new ≡ old ++ (between before style ++ cells)
@@ -71,7 +71,7 @@ module _ (visual : Visual) (styles : List Style) (more : List (ℕ × Style)) wh
       none_left (x ∷ xs) [] e = refl
       none_left (x ∷ xs) (y ∷ ys) e = absurd (omega (arith, e))
 
--- the padding and the characters of a line
+-- writing the padding and then the characters of a line writes the shown line
 pub shown_is : (width : ℕ) (print : Print) (visual : Visual) (styles : List Style) (old mid new : List ℕ) (before padded last : Style) (spaces : ℕ)
     → replicate spaces 32 ≡ padding width print visual → Appends old mid before padded (in_style DEFAULT (replicate spaces 32))
     → Appends mid new padded last (line_chars print visual styles) → Appends old new before last (shown_line width print visual styles)
@@ -80,7 +80,7 @@ shown_is width print visual styles old mid new before padded last spaces p first
     subst (λ (xs : List ℕ). Appends old new before last (in_style DEFAULT xs ++ chars)) p
     (appends_both old mid new before padded last (in_style DEFAULT (replicate spaces 32)) chars first second)
 
--- a whole line
+-- the bytes of a whole line are the shown line, the change back to the default style, and a newline
 pub line_is : (old shown reset all : List ℕ) (last : Style) (line : List (ℕ × Style)) → Appends old shown DEFAULT last line
     → reset ≡ shown ++ between last DEFAULT → all ≡ reset ++ 10 ∷ [] → all ≡ old ++ (written line ++ 10 ∷ [])
 unfolding written

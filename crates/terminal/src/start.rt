@@ -168,8 +168,8 @@ impl Search {
 }
 
 /// Reads a text until its base direction is known, as `whole_direction` defines it: until a paragraph with a
-/// strong character has ended, or 65,536 characters were read. If the source fails before, returns the
-/// direction of the text before the failure. Decodes the bytes as `run` does.
+/// strong character has ended, or 65,536 characters were read. If the source fails first, returns the
+/// direction of the text read so far. Decodes the bytes as `run` does.
 ///
 /// Needs time in proportion to the number of bytes, however few each read returns.
 pub fn read_start<R: Source>(

@@ -111,7 +111,7 @@ fn override_in_an_isolate_changes_the_class_of_a_letter(rt: HostRuntime) -> Resu
     Ok(result?)
 }
 
-// What N0 does with a character that is no bracket.
+// What N0 does with a character that is not a bracket.
 const NO_BRACKET: BracketStep = BracketStep {
     case: None,
     partner: None,

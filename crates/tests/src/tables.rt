@@ -257,7 +257,7 @@ static ENDS: [(char, Bidi); 8] = [
     ('\u{10FFFF}', Bidi::AL),
 ];
 
-// The first and the last character, and a range over the surrogates, which are no characters.
+// The first and the last character, and a range over the surrogates, which are not characters.
 #[test]
 fn lines_reach_both_ends_and_across_the_surrogates(rt: HostRuntime) -> Result<(), Fail> {
     let lines = b"10FFFF;AL\nD7FF..E000;R\nD800..DFFF;EN\n0000;ON";

@@ -294,7 +294,7 @@ begins_in is_cut ps (a ∷ rest) whole all (inr some) more =
 
 module _ (rules : Rules) (width : ℕ) (print : Print) (reader_old reader_new writer_old writer_new : Device) (waiting text lines : List ℕ)
     (at : IsAt rules width print reader_old reader_new writer_old writer_new waiting text lines) where
-  -- the characters and paragraphs of the decoded bytes when any other bytes follow
+  -- ---- the characters and paragraphs of the decoded bytes when any other bytes follow
   pub front_is : (after : List ℕ) → front_of (at.decoded ++ after) ≡ chars at.decoded ++ front_of after
   front_is after = ap chars (take-valid-after at.decoded after at.utf8) ∙ chars-append at.decoded (take (utf8_valid_len after) after) at.utf8
 

@@ -29,7 +29,7 @@ use Rattle.session.specs.declared.places.Place.{Place}
 pub same_some : {A : Type 0} (x y : A) → Some x ≡ Some y → x ≡ y
 same_some {A = A} x y is = ap (λ (o : Option A). unwrap_or o x) is
 
--- what holds for each line of each layout holds for each line of a text
+-- a property that holds for each line of each layout holds for each line of a text
 in_all : (P : Visual → Type 0) (rules : Rules) (width : ℕ) → ((own : Rules) (text : List ℕ) → All P (visuals (layout_of own width text)))
     → (advances : Option (List ℕ)) (pars : List (List ℕ)) → All P (flat_map visuals (layouts_from rules width advances pars))
 in_all P rules width each advances [] = All-nil P
@@ -121,7 +121,7 @@ module _ (line : Visual) where
         | false ↦ refl
       ]
 
--- what holds for each line of each layout holds for a line of a text
+-- a property that holds for each line of each layout holds for a line of a text
 pub in_kept : (rules : Rules) (width : ℕ) (kept : List Layout) → kept ≡ layouts_of rules width (text_of kept)
     → (P : Visual → Type 0) → ((own : Rules) (text : List ℕ) → All P (visuals (layout_of own width text)))
     → (n : ℕ) (line : Visual) → Some line ≡ slice_get (lines_in kept) n → P line
@@ -161,7 +161,7 @@ module _ (kept : List Layout) where
   before-by rules pos caret true within is = absurd (both_ways true within refl)
   before-by rules pos caret false within is = inside Before pos caret is
 
-  -- an edge of a character
+  -- the caret at an edge of a character fits
   pub edge-fits : (rules : Rules) (side : Side) (pos : ℕ) (caret : Caret) → (side ≡ Before → pos < length (text_of kept))
       → Some caret ≡ edge_caret_by rules kept side pos → Fits caret
   edge-fits rules Before pos caret within is =

@@ -60,11 +60,11 @@ module _ (old first : Device) (xs ys zs : List ℕ) (before n : ℕ) where
   front-stops fault stopped = stops-before old first (xs ++ ys) zs before fault (stops-before old first xs ys before fault stopped)
 
   module _ (front : PassedOn xs before old first n) (second : Device) where
-    -- or within the items
+    -- a write failed within the items
     pub items-stop : (fault : RunFault) → Stops ys n first second fault → Stops (xs ++ ys ++ zs) before old second fault
     items-stop fault stopped = stops-before old second (xs ++ ys) zs before fault (stops-after old first second xs ys before n fault front stopped)
 
-    -- or within the end
+    -- a write failed within the end
     pub end-stops : (m : ℕ) → PassedOn ys n first second m → (new : Device) (r : Result ℕ RunFault) → IfErr r (Stops zs m second new)
         → IfErr r (Stops (xs ++ ys ++ zs) before old new)
     end-stops m items new r stops = each_stops-after old second new (xs ++ ys) zs before m r (passed-append front items) stops
@@ -98,7 +98,7 @@ runs_few levels =
       length-order levels,
     )
 
--- what holds for all items holds for the remaining ones
+-- a property that holds for all items holds for the remaining ones
 all-after : {A : Type 0} (P : A → Type 0) (done rest : List A) → All P (done ++ rest) → All P rest
 all-after P [] rest all = all
 all-after P (x ∷ done) rest all = all-after P done rest (All-tail P x (done ++ rest) all)

@@ -110,7 +110,7 @@ module _ (rules : Rules) (options : ScriptOptions) (start now : SessionState) (r
   abbrev After : List (List ℕ) → Option RunFault → ℕ → Option RunFault → Type 0
   After lines wrong k stop = EndsAfter rules options start now lines wrong k reader_old reader_new writer_old writer_new stop
 
-  -- conditions under which `EndsAfter` holds for the lines `done`
+  -- under these conditions, `EndsAfter` holds for the lines `done`
   ends_after : (lines done others : List (List ℕ)) (wrong stop : Option RunFault) → lines ≡ done ++ others → IsDone done
       → Answered rules options before (done ++ others) wrong (length done) writer_old writer_new stop
       → held_at now ≡ after_lines rules options.queries before (executed_lines (done ++ others) (length done) stop)

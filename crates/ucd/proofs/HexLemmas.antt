@@ -11,7 +11,7 @@ pub record HasValue (xs : List ℕ) (k number : ℕ) : Type 0 where
   pub digits : list_all is_ascii_hexdigit (take k xs) ≡ true
   pub bound : number < 16 ^ k
 
--- one more digit
+-- ---- one more digit
 pub value_more : (xs : List ℕ) (k number value : ℕ) → k < length xs
     → number ≡ hex_value (take k xs) → list_all is_ascii_hexdigit (take k xs) ≡ true → number < 16 ^ k
     → value ≡ (if is_ascii_hexdigit (get_or xs k 0) then digit_value (get_or xs k 0) else 16) → value ≤ 15

@@ -16,7 +16,7 @@ module _ (bytes : List ℕ) where
   unfolding IsFirstFault
   other_format header magic isnt = inr (header, inr (magic, inl (isnt, refl)))
 
-  -- the conditions on the header
+  -- ---- the conditions on the header
   module _ (header : 32 ≤ length bytes) (magic : take 12 bytes ≡ codes "hordguli-ucd") (format : u32_at bytes 12 ≡ 1) where
     pub other_version : ¬ (u32_at bytes 16 ≡ version_number (image_version bytes)) → IsFirstFault bytes fault.Version
     unfolding IsFirstFault
@@ -37,7 +37,7 @@ module _ (bytes : List ℕ) where
       other_checksum room end isnt =
           inr (header, inr (magic, inr (format, inr (version, inr (room, inr (end, inl (isnt, refl)))))))
 
-  -- the conditions on the parts between the header and the checksum
+  -- ---- the conditions on the parts between the header and the checksum
   module _ (is : IsFramed bytes) where
     pub unknown_page : ¬ (ArePagesKnown bytes) → IsFirstFault bytes fault.PageNumber
     unfolding IsFirstFault

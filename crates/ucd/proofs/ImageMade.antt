@@ -18,7 +18,7 @@ use Rattle.ucd.proofs.ImageParts.{u16_shown, points_shown, found_shown, shows_at
 use Rattle.ucd.proofs.LineLemmas.{bracket_if, bracket_flag_if, mirror_if, mirror_flag_if, properties_if, version_if}
 use Rattle.ucd.proofs.PagedLemmas.{bracket_is, mirror_is, properties_are, below_limit}
 
--- distinct pages as bytes
+-- ---- distinct pages as bytes
 module _ (version : Version) (answers : ℕ → PropertyAnswers) (points : List PropertyAnswers) (index : List ℕ) (entries : List PropertyAnswers) (numbers bytes : List ℕ)
     (same : (c : ℕ) → c < 1114112 → get_or points c unnamed ≡ answers c) (holds : HoldsPages (λ c. get_or points c unnamed) index entries 4352) (distinct : AreDistinct entries)
     (numbers_len : length numbers ≡ 2 * length index) (numbers_are : (k : ℕ) → k < length index → u16_at numbers (2 * k) ≡ get_or index k 0)

@@ -22,11 +22,11 @@ module _ (bytes : List ℕ) (at : ℕ) (part : List ℕ) (from count : ℕ) (sho
   unfolding u64_at
   u64_shown i j least most is = rw (u32_shown i j least (omega arith) is, u32_shown (i + 4) (j + 4) (omega arith) (omega arith) (omega arith)) refl
 
-  -- fewer bytes
+  -- bytes that show a part also show fewer of its items
   pub shows_less : (less : ℕ) → less ≤ count → Shows bytes at part from less
   shows_less less le = record { each = λ i j least most is. shows.each i j least (omega arith) is }
 
--- the pairs that a part of an image holds
+-- ---- the pairs that a part of an image holds
 module _ {V : Type 0} (decode : ℕ → Option V) (bytes : List ℕ) (at : ℕ) (part : List ℕ) (from count : ℕ) (shows : Shows bytes at part from (8 * count)) where
   pub point_shown : (k : ℕ) → k < count → point_at decode bytes at k ≡ point_at decode part from k
   point_shown k lt = u32_shown bytes at part from (8 * count) shows (at + 8 * k) (from + 8 * k) (omega arith) (omega arith) (omega arith)
@@ -57,7 +57,7 @@ checksum_shown bytes part (suc k) shows =
     let rest : checksum bytes k ≡ checksum part k = checksum_shown bytes part k (shows_less bytes 0 part 0 (8 * suc k) shows (8 * k) (omega arith)) in
     rw (rest, u64_shown bytes 0 part 0 (8 * suc k) shows (8 * k) (8 * k) (omega arith) (omega arith) (omega arith)) refl
 
--- appended bytes, and the bytes before them
+-- the bytes before appended ones stay the same
 pub shows_front : (front back : List ℕ) → Shows (front ++ back) 0 front 0 (length front)
 shows_front front back = record { each = λ i j least most is. (let same : i ≡ j = omega arith in rw same (get_or_append_left front back 0 j (omega arith))) }
 
@@ -74,7 +74,7 @@ shows_through bytes at mid part from count n outer inner le = record {
   each = λ i j least most is. outer.each i i (omega arith) (omega arith) (omega arith) ∙ inner.each i j least most is;
 }
 
--- two bytes appended one after the other
+-- appending the low byte and then the high byte appends a number of 16 bits
 pub adds_16 : (old : List ℕ) (number : ℕ) → Adds16 old ((old ++ (number % 256) ∷ []) ++ (number / 256) ∷ []) number
 unfolding u16_at
 adds_16 old number =
@@ -89,7 +89,7 @@ adds_16 old number =
       here = rw (first, second) (omega arith);
     }
 
--- the lower and the upper half of a number
+-- appending the lower and then the upper half appends a number of 32 bits
 pub adds_32 : (old mid new : List ℕ) (number : ℕ) → Adds16 old mid (number % 65536) → Adds16 mid new (number / 65536) → Adds32 old new number
 unfolding u32_at
 adds_32 old mid new number low high =
@@ -166,7 +166,7 @@ more_16 old new number k len adds = record {
   here = subst (λ i. u16_at new i ≡ number) len adds.here;
 }
 
--- the pairs of the code points below c
+-- ---- the pairs of the code points below c
 module _ {V : Type 0} (decode : ℕ → Option V) (value_of : ℕ → Option V) where
   pub record PointsBelow (bytes : List ℕ) (c : ℕ) : Type 0 where
     pub whole : length bytes % 8 ≡ 0
@@ -175,7 +175,7 @@ module _ {V : Type 0} (decode : ℕ → Option V) (value_of : ℕ → Option V) 
     pub below : (k : ℕ) → k < length bytes / 8 → point_at decode bytes 0 k < c
     pub values : (x : ℕ) → found decode bytes 0 (length bytes / 8) x ≡ (if nat_lt x c then value_of x else None)
 
-  -- no code point has a pair yet
+  -- `PointsBelow` holds before any pair is added
   pub points_none : PointsBelow [] 0
   unfolding found
   points_none = record {
@@ -218,11 +218,11 @@ module _ {V : Type 0} (decode : ℕ → Option V) (value_of : ℕ → Option V) 
   points_next old new c None within is are same = rw same (points_same old c are is)
   points_next old new c (Some value) within is are adds = points_pair old new c value within are is adds
 
--- the same bytes, at numbers that are equal
+-- `Shows` also holds at equal numbers
 pub shows_at : (bytes : List ℕ) (at at' : ℕ) (part : List ℕ) (count count' : ℕ) → Shows bytes at part 0 count → at ≡ at' → count ≡ count' → Shows bytes at' part 0 count'
 shows_at bytes at at' part count count' shows same_at same_count = record { each = λ i j least most is. shows.each i j (omega arith) (omega arith) (omega arith) }
 
--- a number of 64 bits appended in two halves
+-- appending the low and the high half appends a number of 64 bits
 pub adds_checksum : (old mid new : List ℕ) (sum : ℕ) → sum ≡ checksum old (length old / 8) → Adds32 old mid (sum % 4294967296) → Adds32 mid new (sum / 4294967296) → AddsChecksum old new
 unfolding u64_at
 adds_checksum old mid new sum is low high =
@@ -238,12 +238,12 @@ adds_checksum old mid new sum is low high =
       here = rw (first, second) (whole ∙ is);
     }
 
--- the version with a number
+-- the version with a version's number is this version
 number_version : (version : Version) → (if version_number version == 0x0011_0000 then V17_0 else V15_0) ≡ version
 number_version V15_0 = refl
 number_version V17_0 = refl
 
--- the parts one after another
+-- ---- the parts one after another
 module _ (version : Version) (head index pages brackets mirrors bytes : List ℕ)
     (is : IsHeader (codes "hordguli-ucd") head 1 (version_number version) (length pages / 512) (length brackets / 8) (length mirrors / 8))
     (index_len : length index ≡ 8704) (pages_whole : length pages % 512 ≡ 0) (brackets_whole : length brackets % 8 ≡ 0) (mirrors_whole : length mirrors % 8 ≡ 0)

@@ -70,13 +70,13 @@ module _ (answers : ℕ → PropertyAnswers) (old new page : List PropertyAnswer
     same = same_more;
   }
 
--- a block with the given page
+-- `HoldsPages` still holds after a block with a given page has been added
 pub pages_more : (answers : ℕ → PropertyAnswers) (old new page : List PropertyAnswers) (index : List ℕ) (place number : ℕ) → HoldsPages answers index old place → HasPage old new page number
     → ((k : ℕ) → k < 256 → get_or page k unnamed ≡ answers (place * 256 + k)) → HoldsPages answers (index ++ number ∷ []) new (place + 1)
 pages_more answers old new page index place number before has is =
     block_more answers old new page index place number before has.whole has.longer has.room has.within has.others (λ k lt. has.here k lt ∙ is k lt)
 
--- a block with the same properties as the block before
+-- it also holds after a block with the same properties as the block before
 pub pages_again : (answers : ℕ → PropertyAnswers) (entries : List PropertyAnswers) (index : List ℕ) (place number : ℕ) → HoldsPages answers index entries place → 0 < place
     → number ≡ get_or index (place - 1) 0 → ((k : ℕ) → k < 256 → answers (place * 256 - 256 + k) ≡ answers (place * 256 + k)) → HoldsPages answers (index ++ number ∷ []) entries (place + 1)
 pages_again answers entries index place number before some is same =
@@ -88,7 +88,7 @@ pages_again answers entries index place number before some is same =
     rw is ((rw (p, at) at known) ∙ same k lt) in
     block_more answers entries entries [] index place number before before.whole (omega arith) (omega arith) (rw is (before.within (place - 1) (omega arith))) (λ i lt. refl) here
 
--- a page that is written from a run on
+-- ---- a page that is written from a run on
 pub filled_more : (answers : ℕ → PropertyAnswers) (old new : List PropertyAnswers) (properties : PropertyAnswers) (start point stop : ℕ) → start ≤ point → point ≤ stop
     → ((i : ℕ) → i < point - start → get_or old i unnamed ≡ answers (start + i)) → ((c : ℕ) → point ≤ c → c < stop → answers c ≡ properties)
     → ((i : ℕ) → get_or new i unnamed ≡ (if nat_le (point - start) i && nat_lt i (stop - start) then properties else get_or old i unnamed))
@@ -109,7 +109,7 @@ same_block index entries place c some same block =
     let at : (c - 256) % 256 ≡ c % 256 = omega arith in
     rw (block, same, before, at) refl
 
--- a page among the entries
+-- `HasPage` holds for a page that is among the entries
 pub has_among : (entries page : List PropertyAnswers) (number : ℕ) → length entries % 256 ≡ 0 → number * 256 + 256 ≤ length entries
     → IsPage entries number page → HasPage entries entries page number
 has_among entries page number whole within is = record {

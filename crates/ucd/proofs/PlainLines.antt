@@ -11,7 +11,7 @@ use Rattle.ucd.specs.PlainLines.{IsWordByte, AreWord, AreSpaces, IsPlain}
 use Rattle.ucd.proofs.Cuts.{NoMarkBelow, front_at, front_all, parts_at, parts_one}
 use Rattle.ucd.proofs.Trims.{trimmed_at}
 
--- a part of a part
+-- the first m items of the first h items of a list are its first m items
 take_take : (l : List ℕ) (m h : ℕ) → m ≤ h → h ≤ length l → take m (take h l) ≡ take m l
 take_take l m h le within =
     let long : length (take h l) ≡ h = length-take-le h l within in
@@ -20,7 +20,7 @@ take_take l m h le within =
     ext_get_or 0 _ _ (one ∙ sym other)
     (λ i lt. let im : i < m = omega (arith, one) in get_or-take m (take h l) i 0 im ∙ get_or-take h l i 0 (omega arith) ∙ sym (get_or-take m l i 0 im))
 
--- a byte of a part, in the whole list
+-- a byte of a part is a byte of the whole list
 byte_at : (l : List ℕ) (a b m i : ℕ) → a + (b + i) < m → get_or (drop b (drop a (take m l))) i 0 ≡ get_or l (a + (b + i)) 0
 byte_at l a b m i lt = get_or-drop b (drop a (take m l)) i 0 ∙ get_or-drop a (take m l) (b + i) 0 ∙ get_or-take m l (a + (b + i)) 0 lt
 
@@ -102,7 +102,7 @@ module _ (line : List ℕ) (f s n m h : ℕ) (some : 0 < f) (fs : f ≤ s) (sn :
       ∙ list_all-from_AllPass is_ascii (take h line) (All-from_get_or (λ b. is_ascii b ≡ true) (take h line) 0
       (λ i lt. let within : i < h = omega (arith, long) in rw (get_or-take h line i 0 within) (lt-ltb _ _ (before i within).0)))
 
-  -- the line without its comment and white space
+  -- the content of the line is the line without its comment and white space
   content : content_of line ≡ take m line
   content =
       let front = take h line in
@@ -176,7 +176,7 @@ module _ (line : List ℕ) (f s n m h : ℕ) (some : 0 < f) (fs : f ≤ s) (sn :
   pub plain_line : (x y : ℕ) → points_of true (take f line) ≡ Some (x, y) → IsPlain line x y (take (m - n) (drop n line))
   plain_line x y points = record { ascii = plain_ascii; some = plain_some; field = take f line; fields = plain_fields; points = points }
 
--- the digits of a code point
+-- ---- the digits of a code point
 is_given : (b : Bool) (v w : ℕ) → (if b then Some w else None) ≡ Some v → b ≡ true
 is_given true v w is = refl
 is_given false v w is = absurd (let no : ⊥ = cc in no)
@@ -203,7 +203,7 @@ no_dot b is dot = grind arith
 dot_word : (b : ℕ) → b ≡ 46 → IsWordByte b
 dot_word b is = record { above = omega (arith, is); ascii = omega (arith, is); no_comment = λ o. omega (arith, is, o); no_separator = λ o. omega (arith, is, o) }
 
--- a code point that does not begin a range
+-- a field with a single code point is the range from this code point to itself
 pub single_points : (x : List ℕ) (v : ℕ) → code_point x ≡ Some v → points_of true x ≡ Some (v, v)
 single_points x v is = ap (points_by true) (parts_one 46 x (λ k lt. no_dot _ (digit_at x v k is lt))) ∙ rw is refl
 
@@ -212,7 +212,7 @@ single_word line d v within is k from lt =
     let long : length (take d line) ≡ d = length-take-le d line within in
     subst IsWordByte (get_or-take d line k 0 lt) (digit_word _ (digit_at (take d line) v k is (omega (arith, long))))
 
--- two code points with two dots between them
+-- ---- two code points with two dots between them
 module _ (line : List ℕ) (d e v w : ℕ) (within : d + 2 + e ≤ length line) (first : code_point (take d line) ≡ Some v) (last : code_point (take e (drop (d + 2) line)) ≡ Some w)
     (dot : get_or line d 0 ≡ 46) (other_dot : get_or line (d + 1) 0 ≡ 46) where
   pub range_word : AreWord line 0 (d + 2 + e)

@@ -136,8 +136,7 @@ module _ {V : Type 0} where
     apart = λ i e is c covered. apart_at low es i e rising is c (covered_from e c covered);
   }
 
--- The values that the lines of a file assign to a character, and how many lines list it, in terms of the lines'
--- entries.
+-- ---- the values that the lines of a file assign to a character, and how many lines list it
 module _ {V : Type 0} (form : Form V) where
   value_append : (xs ys : List (Entry V)) (c : ℕ) → value_at (xs ++ ys) c ≡ or_else form (value_at xs c) (value_at ys c)
   value_append [] ys c = refl
@@ -236,7 +235,7 @@ module _ {V : Type 0} (form : Form V) where
     values = λ c is. same_value es sorted c moved (once 0 sorted c rising) ∙ ap (λ xs. value_at xs c) are ∙ value_lines lines c is;
   }
 
--- The values before the first entry.
+-- ---- the values before the first entry
 module _ {V : Type 0} where
   value_before : (low : ℕ) (es : List (Entry V)) (c : ℕ) → AreRisingFrom low es → c < low → value_at es c ≡ None
   value_before low es c rising lt = none_covering es c (none_before low es c rising lt)

@@ -6,7 +6,7 @@ use Rattle.ucd.specs.declared.line_detail.LineDetail.TheVariants.{Plain}
 use Rattle.ucd.specs.Answers.{bidi_tag, bidi_class_at, line_tag, line_class_at, line_detail_at, answers_in}
 use Rattle.ucd.specs.Bits.{bidi_at_tag, bidi_tag_below, line_at_tag, detail_at_tag, line_tag_below}
 
--- the properties that some bits encode, from the values of their bit fields
+-- the bit fields determine the properties that the bits encode
 answers_by : (bits bidi bracket mirror pictograph mark wide line : ℕ) → bits % 32 ≡ bidi → bits / 32 % 2 ≡ bracket
     → bits / 64 % 2 ≡ mirror → bits / 128 % 2 ≡ pictograph → bits / 256 % 2 ≡ mark → bits / 512 % 2 ≡ wide
     → bits / 1024 ≡ line →

@@ -1,7 +1,7 @@
 //! A text editor for the terminal: `bidi_pad [--log FILE] TEXT`.
 //!
-//! A session as wide as the window holds the text, and knows all about directions, line breaks and columns. Keys edit it, and it says
-//! which lines to draw again. It also moves the caret, and finds words, grapheme clusters and the columns of a selection.
+//! A session as wide as the window holds the text, and handles directions, line breaks and columns. Keys edit the session, which says
+//! which lines to draw again. The session also moves the caret, and finds words, grapheme clusters and the columns of a selection.
 //!
 //! Keys: arrows, Home, End, Page Up and Page Down, with Ctrl for words and with Shift to select; Backspace, Delete, Ctrl-S (save),
 //! Ctrl-Q (quit).
@@ -77,7 +77,7 @@ impl Pad {
         self.caret = self.session.edge_at(line, column).unwrap_or(self.caret);
     }
 
-    /// Moves the caret to the left or right, at the end of a line to the previous or next one.
+    /// Moves the caret to the left or right. At the end of a line, moves it to the previous or next line.
     fn step(&mut self, direction: Direction) -> Result<()> {
         let (line, _) = self.caret_cell()?;
         match self.session.step(self.caret, direction)? {
@@ -178,7 +178,8 @@ impl Pad {
         last.map_or(true, |last| ENDS.contains(&last))
     }
 
-    /// Replaces characters. Moves the caret after the new text, or before what follows it.
+    /// Replaces characters, and puts the caret at the edge that `edge` returns for the end of the new text. If a
+    /// paragraph or line starts there, puts the caret before the character that follows.
     fn replace(&mut self, old: Range<CharPos>, text: &str, edge: fn(CharPos) -> Edge) {
         let end = old.start + text.chars().count();
         let is_selected = !self.selected().is_empty();
@@ -213,7 +214,7 @@ impl Pad {
         Ok(())
     }
 
-    /// Executes a key that only moves the caret.
+    /// Handles a key that only moves the caret.
     fn travel(&mut self, key: KeyEvent) -> Result<()> {
         let (line, column) = self.caret_cell()?;
         let (height, before) = (self.stale.len(), self.selected());
@@ -241,7 +242,7 @@ impl Pad {
         Ok(())
     }
 
-    /// Executes a key, and returns its name.
+    /// Handles a key press, and returns the name of the key.
     fn press(&mut self, key: KeyEvent) -> Result<String> {
         let is_ctrl = key.modifiers.contains(KeyModifiers::CONTROL);
         let mut name = String::from("key");
@@ -263,7 +264,7 @@ impl Pad {
         Ok(name)
     }
 
-    /// Executes keys until the one that quits.
+    /// Handles key presses until the one that quits.
     fn run(&mut self, mut log: Option<File>) -> Result<()> {
         let (columns, rows) = terminal::size()?;
         self.resize(columns, rows)?;

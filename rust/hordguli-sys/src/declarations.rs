@@ -443,7 +443,7 @@ pub struct hordguli_reason {
     pub sos: u8,
     /// direction of its end
     pub eos: u8,
-    /// HORDGULI_BRACKET_CASE_.., or 0 if it is no bracket
+    /// HORDGULI_BRACKET_CASE_.., or 0 if it is not a bracket
     pub bracket_case: u8,
     /// HORDGULI_NEUTRAL_.., or 0 if its type after N0 is not neutral
     pub neutral: u8,

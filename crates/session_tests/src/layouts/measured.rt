@@ -42,7 +42,7 @@ struct Row {
 }
 
 // A line ends at a break opportunity if the rest is too wide. The first character of a ligature has the
-// ligature's advance, and its other characters have advance 0. If the ligature is wider than its line, the
+// ligature's advance, and its other characters have advance 0. If the ligature is wider than the width, the
 // line ends after its first character. A tab is as wide as its advance.
 static ROWS: [Row; 8] = [
     Row {

@@ -14,7 +14,7 @@ fn edge_of((pos, side): Row) -> Edge {
     Edge { pos, side }
 }
 
-// A text, its width and an edge; the line, the column and the level of the caret at the edge.
+// Input: a text, a width and an edge. Expected: the line, column and level of the caret at the edge.
 type CaretRow<'a> = (&'a str, u16, Row, Option<(usize, usize, u8)>);
 
 const MIXED: &str = "abc \u{5d0}\u{5d1}\u{5d2} def";

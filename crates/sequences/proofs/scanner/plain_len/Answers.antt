@@ -10,7 +10,7 @@ pub returns-then-char_at-eq-BS-clause-kept : goal.returns-then-char_at-eq-BS-cla
 returns-then-char_at-eq-BS-clause-kept c =
     prefix_all (λ d. not (is_dropped d)) c.args.text.now (c.prefix_len-len.result - 1) (omega (arith, c.prefix_len-len.ensures.len))
 
--- a character that remains is no BS
+-- a character that remains is not BS
 pub returns-then-char_at-eq-BS-clause-alone : goal.returns-then-char_at-eq-BS-clause-alone
 returns-then-char_at-eq-BS-clause-alone c some =
     let text = c.args.text.now in

@@ -8,7 +8,7 @@ use Rattle.terminal.proofs.EndLemmas.{read_front}
 use Rattle.terminal.proofs.KnownEndLemmas.{first_is, no_end_more}
 use Rattle.terminal.proofs.known_ends.first_end.Goals as goal
 
--- the number in a result
+-- equal results have equal numbers
 at_same : (k n : ℕ) → At k ≡ At n → k ≡ n
 at_same k n e = cc
 

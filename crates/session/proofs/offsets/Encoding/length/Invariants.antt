@@ -2,7 +2,7 @@ use Rattle.std.proofs.Common.{◌≡◌, ◌+◌, ◌≤◌, ◌*◌, length}
 use Rattle.session.specs.Offsets.{length_in}
 use Rattle.session.proofs.offsets.Encoding.length.Given as goal
 
--- the units counted so far and those of the rest are all units
+-- the count so far, plus the units of the rest, is the number of units of the text
 abbrev pub invariant-loop-rest : goal.invariant-loop-rest
 invariant-loop-rest l = record {
   all : l.length + length_in l.self l.rest ≡ length_in l.self l.text;

@@ -3,7 +3,7 @@ use Rattle.ucd.specs.Entries.{IsFree, IsMet, IsTaken, NamesSome}
 use Rattle.ucd.specs.declared.grammar.Entry.{Entry}
 use Rattle.ucd.proofs.range_table.RangeTable.add.Goals as goal
 
--- the parts of an entry below the surrogates and above them
+-- ---- the parts of an entry below the surrogates and above them
 module _ {V : Type 0} (es : List (Entry V)) (e : Entry V) (low high last : ℕ) (is_low : low ≡ min e.last 55295) (is_high : high ≡ max e.first 57344) (is_last : last ≡ min e.last 1114111) where
   taken_below : IsMet es (record { first = e.first; last = low; value = e.value }) → IsTaken es e
   taken_below met = search rules
