@@ -202,8 +202,8 @@ impl Output {
         Ok(false)
     }
 
-    // Removes the last newline if the text is the last one and does not end with a line end. `last` is the last
-    // character that the text shows.
+    // Removes the last newline if the text is the last one and does not end with a line end. `last` is the
+    // last character that the text shows.
     fn end_page(&mut self, engine: &Engine, is_last: bool, last: Option<char>)
         ensures page { self.new.page.bytes.items
             ≡ ended_page (rules_of engine.now).tables is_last last self.old.page.bytes.items }
