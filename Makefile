@@ -64,6 +64,11 @@ ARCH = amd64
 for_arm64 = $(if $(filter arm64,$(ARCH)),$(1))
 $(if $(filter amd64 arm64,$(ARCH)),,$(error ARCH=$(ARCH) is neither amd64 nor arm64))
 
+# Two of these targets never run at the same time, also with --jobs, since each proves the crates that it needs.
+ifneq ($(word 2,$(filter all program c fribidi image bench-program conformance-program,$(MAKECMDGOALS))),)
+.NOTPARALLEL:
+endif
+
 all: programs = fribidi hordguli conformance oom_driver no_allocation table_tools
 program: programs = fribidi hordguli
 bench-program: programs = fribidi hordguli bench
