@@ -1,5 +1,5 @@
 -- How many lines of some paragraphs are the same as those of others, from the start and from the end.
-use Rattle.std.proofs.Common.{◌≡◌, ℕ, ◌+◌, ◌-◌, ◌<◌, ◌≤◌, ◌==◌, ◌⊎◌, Bool, true, false, List, [], ◌∷◌, ◌++◌, length, take, drop, get_or, Some, None, Option, refl, sym, ap, ap₂, subst, ◌∙◌, inl, inr, arith}
+use Rattle.std.proofs.Common.{◌≡◌, ℕ, ◌+◌, ◌-◌, ◌<◌, ◌≤◌, ◌⊎◌, Bool, true, false, List, [], ◌∷◌, ◌++◌, length, take, drop, get_or, Some, None, refl, sym, ap, ap₂, subst, ◌∙◌, inl, inr, arith}
 use Rattle.std.specs.Prelude.{option_map, unwrap_or}
 use Rattle.std.specs.List.{slice_get}
 use Rattle.std.proofs.lemmas.Bool.{cases_lt}
@@ -8,7 +8,7 @@ use Rattle.std.proofs.lemmas.List.Concat.{flat_map-append}
 use Rattle.std.proofs.lemmas.Option.{slice_get_cases}
 use Rattle.lines.specs.Layouts.{visuals, Layout}
 use Rattle.lines.specs.Matching.{MatchAtEnd, MatchAtStart}
-use Rattle.lines.specs.Visual.{Line, Visual, visual_of}
+use Rattle.lines.specs.Visual.{Visual, visual_of}
 use Rattle.lines.proofs.PageLemmas.{visual_at}
 use Rattle.session.specs.Changes.{HasLines}
 use Rattle.session.specs.Kept.{lines_in}

@@ -1,6 +1,6 @@
 -- The paragraphs that are compared in a loop: those from one index to another with new ones, or all with
 -- themselves at another width.
-use Rattle.std.proofs.Common.{◌≡◌, ℕ, zero, suc, ◌+◌, ◌-◌, ◌<◌, ◌≤◌, ◌^◌, ◌⊎◌, Bool, true, false, List, [], ◌∷◌, ◌++◌, length, map, min, take, drop, get_or, sum_by, Some, None, Option, unwrap_or, refl, sym, ap, subst, ◌∙◌, inl, inr, arith}
+use Rattle.std.proofs.Common.{◌≡◌, ℕ, zero, suc, ◌+◌, ◌-◌, ◌<◌, ◌≤◌, ◌⊎◌, true, false, List, [], ◌∷◌, length, map, min, take, drop, get_or, sum_by, Some, Option, unwrap_or, refl, sym, ap, subst, ◌∙◌, inl, inr, arith}
 use Rattle.std.specs.Prelude.{not}
 use Rattle.std.specs.List.{All, AllZip, slice_get, slice_range}
 use Rattle.std.proofs.lemmas.Bool.{cases_lt, not-false, not-true}

@@ -1,5 +1,5 @@
 -- What calls do with a session does not depend on which lines changed.
-use Rattle.std.proofs.Common.{◌≡◌, ℕ, Bool, List, Option, Result, Ok, Err, length, map, get_or, refl, arith}
+use Rattle.std.proofs.Common.{ℕ, Bool, List, Option, Result, Ok, Err, map, get_or, arith}
 use Rattle.std.specs.List.{All}
 use Rattle.std.proofs.lemmas.List.{length-map}
 use Rattle.std.proofs.lemmas.Option.{slice_get_within}
@@ -11,7 +11,7 @@ use Rattle.lines.specs.declared.engine.Engine.{Engine}
 use Rattle.session.specs.Changes.{AreChanged, AreFound, HasLines}
 use Rattle.session.specs.Edits.{Replacement}
 use Rattle.session.specs.Kept.{lines_in}
-use Rattle.session.specs.Measuring.{IsFaultFor, Remains, SetsAdvances, SetsMeasuredWidth}
+use Rattle.session.specs.Measuring.{Remains, SetsAdvances}
 use Rattle.session.specs.Places.{IsLined}
 use Rattle.session.specs.Sessions.{state_of, with_changed, Edits, IsWholeLayout, OpensAs, SessionState, SetsWidth, Stays}
 use Rattle.session.specs.declared.edits.AdvanceFault.{AdvanceFault}

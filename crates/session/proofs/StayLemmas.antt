@@ -1,10 +1,9 @@
 -- The lines of a paragraph at another width.
-use Rattle.std.proofs.Common.{◌≡◌, ℕ, ◌-◌, ◌<◌, ◌≤◌, List, length, map, take, drop, None, Some, Option, refl, sym, ap, subst, ◌∙◌, arith}
+use Rattle.std.proofs.Common.{◌≡◌, ℕ, List, length, None, Some, refl, sym, ap, subst, ◌∙◌, arith}
 use Rattle.std.proofs.lemmas.List.{length-map}
 use Rattle.lines.specs.Extents.{extents_of, LineExtents}
 use Rattle.lines.specs.Layouts.{layout_of, lines_of, start_of, visuals, IsLaidOut, Layout, Rules}
 use Rattle.lines.specs.Matching.{MatchAtEnd, MatchAtStart}
-use Rattle.lines.specs.Visual.{Visual}
 use Rattle.lines.proofs.StayingLemmas.{extents-lines}
 use Rattle.session.specs.Kept.{rules_for, BringsTo, IsFresh}
 use Rattle.session.specs.Matching.{at_width}

@@ -1,5 +1,5 @@
 -- Which of the damaged lines of a call differ from before.
-use Rattle.std.specs.Prelude.{◌≡◌, ◌≢◌, ℕ, ◌+◌, ◌-◌, ◌<◌, ◌≤◌, List, length, min, slice_get}
+use Rattle.std.specs.Prelude.{◌≢◌, ℕ, ◌+◌, ◌-◌, ◌<◌, ◌≤◌, List, length, min, slice_get}
 use Rattle.std.specs.List.{All}
 use Rattle.lines.specs.Layouts.{Layout}
 use Rattle.lines.specs.Visual.{Visual}

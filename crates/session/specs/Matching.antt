@@ -1,5 +1,5 @@
 -- How many lines of a paragraph are the same as those of another one.
-use Rattle.std.specs.Prelude.{◌≡◌, ◌<◌, ◌≤◌, ◌⊎◌, ℕ, Bool, true, false, List, length, Option}
+use Rattle.std.specs.Prelude.{◌≡◌, ◌<◌, ◌≤◌, ◌⊎◌, ℕ, true, false, List, length, Option}
 use Rattle.std.specs.List.{All, AllZip}
 use Rattle.lines.specs.Extents.{LineExtents}
 use Rattle.lines.specs.Layouts.{Layout, Rules, lines_of, visuals}

@@ -1,23 +1,20 @@
 -- The search for the direction of an input whose bytes come in chunks.
-use Rattle.std.proofs.Common.{◌≡◌, ◌⊎◌, ℕ, ◌+◌, ◌-◌, ◌^◌, ◌<◌, ◌≤◌, vec_len, Bool, true, false, List, [], ◌∷◌, ◌++◌, length, take, drop, Option, Some, None, drop_at, refl, sym, subst, ap, ap₂, inl, inr, ◌∙◌, append_assoc, arith}
-use Rattle.std.specs.List.{concat}
-use Rattle.std.specs.Io.KnownBytes.{Consumes, IsAtEnd}
+use Rattle.std.proofs.Common.{◌≡◌, ℕ, ◌+◌, ◌-◌, ◌^◌, ◌≤◌, vec_len, Bool, true, false, List, [], ◌++◌, length, take, drop, Option, Some, None, drop_at, refl, sym, subst, ap, ap₂, inl, inr, ◌∙◌, append_assoc, arith}
+use Rattle.std.specs.Io.KnownBytes.{Consumes}
 use Rattle.std.proofs.lemmas.List.{append-nil, length-append, length-drop, length-take-le}
 use Rattle.bidi.specs.declared.base.Base.{Base}
-use Rattle.device.specs.Device.{Device, FailedLast, Fails}
+use Rattle.device.specs.Device.{Device, Fails}
 use Rattle.lines.specs.Layouts.{Rules, cut_by}
 use Rattle.stream.proofs.Utf8Lemmas.{nothing_bad, nothing_valid}
 use Rattle.stream.specs.declared.reading.TheConstants.{CHUNK}
 use Rattle.terminal.specs.Decoding.{IsBeginning, IsRead, text_after}
 use Rattle.terminal.specs.Directions.{direction_of}
-use Rattle.terminal.specs.Ends.{IsOpen}
 use Rattle.terminal.specs.Run.{HasRead}
 use Rattle.terminal.specs.RunState.{last_characters}
-use Rattle.terminal.specs.Searches.{Advances, Continues, Finds, HasSearched, HasSearchedAll, Searches, text_direction}
+use Rattle.terminal.specs.Searches.{Advances, Finds, HasSearched, HasSearchedAll, Searches, text_direction}
 use Rattle.terminal.specs.Starts.{IsStart, IsUnknown, StopsEarly}
 use Rattle.terminal.specs.Texts.{blocks, input_text}
 use Rattle.terminal.specs.declared.decoder.Decoder.{Decoder}
-use Rattle.terminal.specs.declared.direction.TheConstants.{FIRST_CHARACTERS}
 use Rattle.terminal.specs.declared.form.Escapes.{Escapes}
 use Rattle.terminal.specs.declared.start.Search.{Search}
 use Rattle.terminal.proofs.Devices.{Consumes-append, Consumes-kept, FailedLast-after}

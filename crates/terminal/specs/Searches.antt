@@ -1,6 +1,5 @@
 -- The state of the search for the direction of a text. No contract of an exported function uses these definitions.
 use Rattle.std.specs.Prelude.{◌≡◌, ℕ, ◌+◌, ◌<◌, ◌≤◌, Bool, true, false, List, ◌++◌, length, take, drop, vec_len, Option, Some, None}
-use Rattle.std.specs.List.{concat}
 use Rattle.device.specs.Device.{Device}
 use Rattle.bidi.specs.declared.base.Base.{Base}
 use Rattle.lines.specs.Layouts.{Rules, cut_by}

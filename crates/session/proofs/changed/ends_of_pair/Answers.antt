@@ -1,4 +1,4 @@
-use Rattle.std.proofs.Common.{◌≡◌, ◌+◌, length, sym, subst, ◌∙◌, arith}
+use Rattle.std.proofs.Common.{subst, arith}
 use Rattle.lines.specs.Layouts.{visuals}
 use Rattle.lines.specs.Matching.{MatchAtStart}
 use Rattle.session.proofs.BorderLemmas.{length-visuals}

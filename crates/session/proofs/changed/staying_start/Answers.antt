@@ -1,8 +1,8 @@
-use Rattle.std.proofs.Common.{◌≡◌, Some, None, length, ap, sym, subst, ◌∙◌, arith}
+use Rattle.std.proofs.Common.{◌≡◌, length, sym, subst, ◌∙◌}
 use Rattle.lines.specs.Layouts.{visuals, Layout}
 use Rattle.lines.specs.Extents.{LineExtents}
 use Rattle.lines.specs.Matching.{MatchAtStart}
-use Rattle.session.specs.Kept.{rules_for, BringsTo}
+use Rattle.session.specs.Kept.{BringsTo}
 use Rattle.session.specs.Matching.{at_width, IsWhole, MatchingAtStart}
 use Rattle.session.proofs.BorderLemmas.{length-visuals}
 use Rattle.session.proofs.StayLemmas.{start_all, start_stays, starts_count, stays_whole}

@@ -1,4 +1,4 @@
-use Rattle.std.proofs.Common.{◌≡◌, ◌∙◌, ◌-◌, List, length, ap, refl, subst, sum_by, sym, arith}
+use Rattle.std.proofs.Common.{◌≡◌, ◌∙◌, ◌-◌, List, ap, refl, subst, sum_by, sym, arith}
 use Rattle.std.specs.List.{All, slice_range, splice}
 use Rattle.lines.specs.Layouts.{Layout}
 use Rattle.lines.specs.Matching.{MatchAtEnd, MatchAtStart}
@@ -8,7 +8,7 @@ use Rattle.session.specs.Kept.{lines_in}
 use Rattle.session.specs.declared.edits.ChangedLines.{ChangedLines}
 use Rattle.session.specs.declared.edits.Damage.{Damage}
 use Rattle.session.proofs.BorderLemmas.{lines_of}
-use Rattle.session.proofs.EditLemmas.{at_ok, AreSums-splice}
+use Rattle.session.proofs.EditLemmas.{AreSums-splice}
 use Rattle.session.proofs.TrimLemmas.{damage_fits, AreFound-put}
 use Rattle.session.proofs.replace.put.Goals as goal
 

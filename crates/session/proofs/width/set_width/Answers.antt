@@ -1,12 +1,11 @@
-use Rattle.std.proofs.Common.{◌∙◌, List, Option, length, map, refl, subst, sym}
+use Rattle.std.proofs.Common.{◌∙◌, List, length, refl, subst, sym}
 use Rattle.std.specs.List.{All}
-use Rattle.lines.specs.Extents.{LineExtents}
 use Rattle.lines.specs.Engine.{rules_of}
 use Rattle.lines.specs.Layouts.{Layout}
 use Rattle.lines.specs.Matching.{MatchAtEnd, MatchAtStart}
 use Rattle.session.specs.Changes.{AreFound, HasLines}
 use Rattle.session.specs.Kept.{lines_in, text_of, IsFresh}
-use Rattle.session.specs.Matching.{at_width, AreBrought}
+use Rattle.session.specs.Matching.{AreBrought}
 use Rattle.session.specs.declared.edits.ChangedLines.{ChangedLines}
 use Rattle.session.specs.declared.edits.Damage.{Damage}
 use Rattle.session.proofs.BorderLemmas.{length-lines}

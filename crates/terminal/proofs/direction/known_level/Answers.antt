@@ -1,4 +1,4 @@
-use Rattle.std.proofs.Common.{Some, None, refl, sym, ◌∙◌}
+use Rattle.std.proofs.Common.{Some, refl, sym, ◌∙◌}
 use Rattle.lines.specs.Engine.{rules_of}
 use Rattle.terminal.proofs.DirectionLemmas.{level_found, searched_all, searched_block}
 use Rattle.terminal.proofs.direction.known_level.Goals as goal

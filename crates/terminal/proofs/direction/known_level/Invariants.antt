@@ -1,4 +1,4 @@
-use Rattle.std.proofs.Common.{◌≡◌, ◌-◌, length}
+use Rattle.std.proofs.Common.{◌-◌, length}
 use Rattle.lines.specs.Engine.{rules_of, SameRules}
 use Rattle.terminal.specs.Searches.{HasSearched}
 use Rattle.terminal.proofs.direction.known_level.Given as goal

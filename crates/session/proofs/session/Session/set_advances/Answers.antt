@@ -1,11 +1,4 @@
-use Rattle.std.proofs.Common.{◌≡◌, length}
-use Rattle.std.specs.List.{All}
-use Rattle.std.specs.Prelude.{IfErr, IfOk}
-use Rattle.session.specs.Changes.{AreChanged, AreFound, HasLines}
-use Rattle.session.specs.Kept.{lines_in}
-use Rattle.session.specs.Sessions.{state_of, with_changed, SessionState}
-use Rattle.session.specs.declared.edits.ChangedLines.{ChangedLines}
-use Rattle.session.specs.declared.edits.Damage.{Damage}
+use Rattle.session.specs.Sessions.{state_of}
 use Rattle.session.proofs.StateLemmas.{changed_as, if_err, if_ok, if_ok_both, advances_with, remains_with}
 use Rattle.session.proofs.session.Session.set_advances.Goals as goal
 
