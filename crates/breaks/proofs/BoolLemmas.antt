@@ -58,7 +58,7 @@ is_no_less a b h = grind (arith, nat_tests)
 pub is_within : (a b : ℕ) → nat_le a b ≡ true → a ≤ b
 is_within a b h = grind (arith, nat_tests)
 
--- if all numbers in a list pass a test, and 0 does, so does the number at any index
+-- if 0 and all numbers in a list pass a test, so does the number at any index, which is 0 past the end
 pub passes_at : (test : ℕ → Bool) (xs : List ℕ) (k : ℕ) → test 0 ≡ true → list_all test xs ≡ true → test (get_or xs k 0) ≡ true
 passes_at test [] k default all = default
 passes_at test (x ∷ xs) zero default all = (both _ _ all).0
@@ -83,7 +83,7 @@ entry_at table start row symbol entry begins reads =
 pub is_equal : (a b : ℕ) → (a == b) ≡ true → a ≡ b
 is_equal a b h = grind (arith, nat_tests)
 
--- the next state of a table's entry, if the computed test of the entry says so
+-- `next_row` is the start of the row of a state that passes the test; `next_of` finds this state by a computed test
 pub record Next (symbols states next_row : ℕ) (test : ℕ → Bool) : Type 0 where
   pub next : ℕ
   pub below : next < states
@@ -107,7 +107,7 @@ same_four f a a′ b b′ c c′ d d′ p q r s = rw (p, q, r, s) refl
 pub same_two : {A B C : Type 0} (f : A → B → C) (a a′ : A) (b b′ : B) → a ≡ a′ → b ≡ b′ → f a b ≡ f a′ b′
 same_two f a a′ b b′ p q = rw (p, q) refl
 
--- if two numbers are equal, or are not, so is their Boolean comparison
+-- the Boolean comparison of two numbers is true if they are equal, and false if they are not
 pub equal_is : (a b : ℕ) → a ≡ b → (a == b) ≡ true
 equal_is a b h = grind (arith, nat_tests)
 

@@ -20,8 +20,8 @@ abbrev pub begun_by : Character → List Character → Base
 begun_by c attached = record { first = c; attached = attached }
 
 -- Conditions on the rules under which the character c can be doubled, with this mark between the two. `Like` relates two lists of bases
--- that the rules do not distinguish after another base. A mark before the two characters stays the same (`ahead`), and so does the
--- one after the base of the second (`here`). The others are the same since the bases before them are alike.
+-- that the rules do not distinguish after another base. Marks before the two characters do not change (`ahead`), and neither does the
+-- mark after the base of the second character (`here`). Later marks do not change because the bases before them are alike.
 pub record Doubles (rs : List Rule) (Like : List Base → List Base → Type 0) (c : Character) (mark : Mark) : Type 0 where
   pub ahead : (last : Base) (before front : List Base) (attached : List Character) (after : List Base)
       → mark_by rs (last ∷ before) (front ++ alone c ∷ begun_by c attached ∷ after) ≡ mark_by rs (last ∷ before) (front ++ begun_by c attached ∷ after)
@@ -34,7 +34,8 @@ pub record Doubles (rs : List Rule) (Like : List Base → List Base → Type 0) 
 abbrev pub is_class : LineClass → Bool
 is_class class = is_one_of doubled_classes class
 
--- What holds for each class of a doubled character holds for all of them. A catch-all would compute its goal once for each other class.
+-- A statement that holds for each of these five classes holds for the class of any character that can be doubled. Lemmas
+-- use this instead of a catch-all case, which would compute their goal once for each other class.
 pub for_class : (P : LineClass → Type 0) → P SP → P NU → P AL → P HL → P ID → (class : LineClass) → is_class class ≡ true → P class
 for_class P sp nu al hl id SP h = sp
 for_class P sp nu al hl id NU h = nu
@@ -43,7 +44,7 @@ for_class P sp nu al hl id HL h = hl
 for_class P sp nu al hl id ID h = id
 for_class P sp nu al hl id class h = cc
 
--- a base of another class ends no pair
+-- a base whose class is not among the second classes of a pair does not complete the pair
 pub no_pair : (classes : List LineClass) (b : Base) (bases : List Base) → is_one_of classes (class_of b) ≡ false → is_pair (HL ∷ []) classes (b ∷ bases) ≡ false
 no_pair classes b bases none = pair_after (HL ∷ []) classes b bases ∙ ap (λ is_one. is (HL ∷ []) bases && is_one) none ∙ and_false _
 

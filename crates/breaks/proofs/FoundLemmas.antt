@@ -28,7 +28,7 @@ bases_from c (d ∷ text) =
     ] in
     by (stays_with c d)
 
--- when one more base is found, the bases found so far and the remaining ones are still the same bases
+-- the bases found so far and those of the remaining characters are the same before and after one more base is found
 pub found_more : (done : List Found) (b : Found) (rest : List Looked) (n : ℕ)
     → n ≡ attached_len (character_in b.first) (map character_in rest) → b.attached.now ≡ take n rest
     → map base_in (done ++ b ∷ []) ++ bases_of (map character_in (drop n rest)) ≡ map base_in done ++ bases_of (map character_in (b.first ∷ rest))

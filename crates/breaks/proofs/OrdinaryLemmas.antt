@@ -16,7 +16,7 @@ use Rattle.breaks.specs.declared.table.TheConstants.{STAYS, UNLESS}
 use Rattle.breaks.proofs.PassLemmas.{Passes15, kept, passes_as, starts}
 use Rattle.breaks.proofs.SymbolLemmas.{is_joiner}
 
--- neither of the conditions that an ordinary character must not meet holds
+-- if `not a && not b` is true, both a and b are false
 parts : (a b : Bool) → (not a && not b) ≡ true → (a ≡ false) × (b ≡ false)
 parts false false h = (refl, refl)
 parts false true h = cc
@@ -27,7 +27,7 @@ parts_both true true h = (refl, refl)
 parts_both true false h = cc
 parts_both false b h = cc
 
--- the symbol of a ZWJ is JOINER, and of no other character
+-- a symbol is `JOINER` if and only if it is that of a ZWJ
 joins : (symbol : ℕ) (p : Properties) → symbol < SYMBOL_COUNT → shown symbol ≡ told (character_by V15_0 p) → (symbol == JOINER) ≡ is_same (character_by V15_0 p).class ZWJ
 joins symbol p below shows = is_joiner symbol below ∙ ap (λ d. is_same d.class ZWJ) shows
 
@@ -70,7 +70,7 @@ passes_ordinary row symbol next_row outcome p below shows reads_row reads_outcom
     (passes_as (full_walk row) symbol next_row outcome c false outcome below shows reads_row reads_outcome
     (none_kept row outcome p both.1) (decides_alone outcome) whole_numbers last others stands)
 
--- an item of a list that passes throughout
+-- if all items of a list pass a test, so does the item at an index
 pub one_of_all : (p : Properties → Bool) (all : List Properties) (i : ℕ) (d : Properties) → i < length all → list_all p all ≡ true → d ≡ get_or all i d → p d ≡ true
 one_of_all p all i d within passes is =
     elim (cases_Bool (p d)) [

@@ -366,7 +366,7 @@ module _ (walk : Walk17) (last : Base) (others : List Base) (stands : Stands17 w
       (at_bits stands.state walk.is_joined walk.is_pictograph walk.is_wide walk.was_wide)
       (may_have_told c (shown_17 symbol) shows) free says.gives lt
 
-  -- the mark of the rules, from the examples from which the table was computed
+  -- the mark of the rules, derived from the examples with which the table was checked
   ruled : (place : ℕ) (attached : List Character) (rest : List Base)
       → map (λ row. row.after (record { first = c; attached = attached } ∷ rest)) rows_17 ≡ answers_after_17 c (rest_at place)
       → decide_17 marks_by_row_17 (answered_17 (bits_in walk) (answers_17 (bases_at_17 stands.state)))

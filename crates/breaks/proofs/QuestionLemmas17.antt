@@ -129,7 +129,7 @@ answered question symbol answer result c ge lt within before shows reads equals 
       says.2,
     )
 
--- a character that joins the base before it answers no question
+-- a character that joins the base before it does not change the answer to a question
 pub passed_over : (question symbol : ℕ) (c : Character) (text : List Character) → symbol < SYMBOL_COUNT → ATTACHED ≤ symbol → shown_17 symbol ≡ told_17 c
     → mark_of_17 question (bases_after (c ∷ text)) ≡ mark_of_17 question (bases_after text)
 passed_over question symbol c text within ge shows =

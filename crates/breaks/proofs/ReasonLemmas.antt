@@ -1,4 +1,4 @@
--- The first rule that applies, from the first rules of parts of the list.
+-- The first rule that applies is found by trying the parts of the list of rules in order.
 use Rattle.std.proofs.Common.{◌≡◌, Bool, true, false, Option, None, Some, List, [], ◌∷◌, ◌++◌, length, map, refl, sym, ap, ◌∙◌, arith}
 use Rattle.std.specs.Prelude.{if◌then◌else◌, fold}
 use Rattle.std.specs.Option.{option_or}
@@ -64,7 +64,7 @@ module _ (before after : List Base) where
   first_in_parts (part ∷ parts) named =
       more_rules part.names (all_names parts) part.rules (all_rules parts) named.0 ∙ ap (option_or (first_in part)) (first_in_parts parts named.1)
 
-  -- the parts are tried one after another
+  -- the first rule of the parts, tried one after another, is the first rule of the whole list
   pub first_tried : (part : Part) (parts : List Part) → AreNamed (part ∷ parts)
       → fold option_or (first_in part) (map first_in parts) ≡ first_by (all_names (part ∷ parts)) (all_rules (part ∷ parts)) before after
   first_tried part parts named = tried (first_in part) (map first_in parts) ∙ sym (first_in_parts (part ∷ parts) named)

@@ -116,7 +116,7 @@ odd_after b bases =
       | false ↦ refl
     ]
 
--- after one more base, these conditions are the same for two lists of bases if they were
+-- if these conditions are the same for two lists of bases, they are still the same after one more base
 module _ (b : Base) (p q : List Base) where
   pub spaced_same : (classes : List LineClass) → is_spaced classes p ≡ is_spaced classes q → is_spaced classes (b ∷ p) ≡ is_spaced classes (b ∷ q)
   spaced_same classes e = spaced_after classes b p ∙ ap (λ s. if is_same (class_of b) SP then s else is_one_of classes (class_of b)) e ∙ sym (spaced_after classes b q)

@@ -103,8 +103,8 @@ begins_walk v whole_numbers all rest p is = rw is (walk_from_start v whole_numbe
 pub one_longer : {X : Type 0} (text : List X) (x : X) (rest : List X) (marks : List Mark) → length marks ≡ length text → text ≡ x ∷ rest → length marks ≡ length rest + 1
 one_longer text x rest marks len is = omega (arith, ap length is)
 
--- The state belongs to the bases so far, as `stands` says. The marks so far, followed by the marks of the recursion, are all
--- marks.
+-- The state belongs to the bases so far, as `stands` says. The marks so far, followed by the marks of the recursion, are the
+-- marks of the whole text.
 abbrev pub Walks : List Rule → (Base → List Base → Type 0) → List Mark → List Character → List Mark → Type 0
 Walks rules stands marks text whole =
     (last : Base) × (others : List Base) × stands last others × (marks ++ walk rules others last text ≡ whole)

@@ -34,8 +34,8 @@ abbrev pub is_nothing : List LineClass → Bool
 is_nothing [] = true
 is_nothing (class ∷ rest) = false
 
--- Whether a list of classes matches the expression from one of its parts on, with the last part first. No
--- optional or repeated part shares a class with a part that can follow it, so each part can match greedily.
+-- Whether a list of classes matches the end of the expression, from some part on. The definition for the last part comes
+-- first. No optional or repeated part shares a class with a part that can follow it, so each part can match greedily.
 abbrev pub is_end : List LineClass → Bool
 is_end classes = is_nothing (after_one affix classes)
 

@@ -95,7 +95,7 @@ start_of (b ∷ bases) = Some (chars_in bases)
 abbrev pub next_class : List Base → Option LineClass
 next_class bases = option_map class_of (slice_get bases 0)
 
--- the reason for the mark between the nearest base of `before`, which is b, and those after it
+-- the reason for the mark after the base b, which is the nearest base of `before`, given the bases after it
 abbrev pub reason_at : List LineRule → List Rule → Base → List Base → List Base → Reason
 reason_at names rules b before after = record {
   rule = unwrap_or (first_by names rules (b ∷ before) after) LB31;

@@ -24,7 +24,7 @@ pub struct Before<'b, 'a> {
     is_odd_run: bool,
     ends_in_number: bool,
     ends_in_digits: bool,
-    // The last two fields, for the bases before the nearest one.
+    // The same as the two fields above, for the bases without the nearest one.
     rest_ends_in_number: bool,
     rest_ends_in_digits: bool,
 }
@@ -52,7 +52,7 @@ impl<'b, 'a> Model for Before<'b, 'a> {
 }
 
 impl<'b, 'a> Before<'b, 'a> {
-    /// Returns no bases, given an empty list.
+    /// Returns the bases before the first one, given an empty list: there are none.
     pub fn none(bases: &'b [Base<'a>]) -> Before<'b, 'a>
         requires { length bases.now ≡ 0 }
         ensures { result ≡ [] }

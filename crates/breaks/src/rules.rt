@@ -52,8 +52,8 @@ pub trait Rules: Copy {
 
 /// The state of the walk: what the rules need to know about the bases before a position.
 pub trait Walk<R: Rules>: Copy {
-    // Whether the state belongs to the bases before a position: the last one, and the others, the nearest
-    // first.
+    // Whether the state belongs to the bases before a position, which are the last base and the others, with
+    // the nearest first.
     ghost stands: { R → Self → Base → List Base → Type 0 };
 
     // Whether the state has a row in the table.

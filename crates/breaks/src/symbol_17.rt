@@ -1,6 +1,6 @@
 //! The symbol of a character for the rules of Unicode 17.0: its class after LB1 and, for LB30, whether a
 //! parenthesis is wide. Quotation marks of the general categories Pi and Pf (LB15a, LB15b, LB19) and U+25CC
-//! (LB28a) have symbols of their own.
+//! (LB28a) have separate symbols.
 ghost use Rattle.std.specs.Prelude.{◌≡◌, ◌<◌, slice_index};
 ghost use Rattle.ucd.specs.declared.properties.TheConstants.{LINE_INDEX_COUNT};
 ghost use Rattle.ucd.specs.declared.version.Version.TheVariants.{V17_0};

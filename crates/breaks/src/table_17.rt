@@ -46,7 +46,7 @@ pub enum State {
     FinalQU,
     B2,
     CB,
-    /// BA, or an HH that has no state of its own.
+    /// BA, or an HH that belongs to none of the later states for HH.
     BA,
     /// An HY that belongs to none of the later states for HY.
     HY,
@@ -75,7 +75,7 @@ pub enum State {
     JT,
     /// An odd number of RI.
     RI,
-    /// EX, IN, NS, VF, a VI that has no state of its own, or an even number of RI.
+    /// EX, IN, NS, VF, a VI that does not belong to `AksaraVI`, or an even number of RI.
     Other,
     /// IS after a number, as in `NU (SY | IS)*`. The number may continue after the IS.
     NumberIS,

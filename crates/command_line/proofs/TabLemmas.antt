@@ -7,7 +7,7 @@ use Rattle.clap.proofs.WalkLemmas.{one_text-rows}
 use Rattle.command_line.specs.CommandLine.{HasTabs, number_of, tab_width_of}
 use Rattle.command_line.proofs.DefaultLemmas.{number_read}
 
--- the text of the tab width is parsed as the number that it denotes, and without the option there is none
+-- the text of the tab width is parsed as the number that it denotes; without the option, there is no such text
 pub tabs_read : (E : Type 0) (Gives : Text → Result ℕ E → Type 0) → ((t : Text) (x : Result ℕ E) → Gives t x → ParsesUnsigned 8 10 t x)
     → (f : Found) (r : Option ℕ) → HasTabs (rows_of f) → (one_text f (codes "tabs") ≡ None → r ≡ None)
     → ((t : Text) → one_text f (codes "tabs") ≡ Some t → ReadsOne Gives t r) → unwrap_or r 0 ≡ tab_width_of (rows_of f)

@@ -178,9 +178,9 @@ pub record AreMatches (words : List Text) (matches : ArgMatches) : Type 0 where
   pub width : HasNumber (codes "width") 65535 (rows_of (found_of matches))
   pub tabs : HasTabs (rows_of (found_of matches))
 
--- Either `clap` refuses the arguments with this kind of error, or it accepts them and this is the first of the following
--- faults that applies. The faults are, in order: more than one base direction is set, there is no such Unicode version,
--- a script does not have exactly one text, there are queries without a script.
+-- Either `clap` refuses the arguments with this kind of error, or it accepts them and the fault is the first that applies.
+-- The faults are, in order: more than one base direction is set, there is no such Unicode version, a script does not
+-- have exactly one text, there are queries without a script.
 abbrev pub IsLineFault : List Text → LineFault → Type 0
 IsLineFault words (Words error) = IsAmong (kind_of error) (fault_of program words)
 IsLineFault words Directions = (fault_of program words ≡ []) × (base_of (matches_of program words) ≡ None)

@@ -1,4 +1,4 @@
--- One more part of a text, after those that were copied.
+-- Copying the text of a range to an array, part by part.
 use Rattle.std.proofs.Common.{◌≡◌, ℕ, zero, suc, ◌+◌, ◌-◌, ◌≤◌, List, [], ◌∷◌, ◌++◌, length, drop, take, nat_lt, unwrap_or, Some, None, refl, sym, ap, ◌∙◌, arith}
 use Rattle.std.specs.List.{slice_range}
 use Rattle.std.proofs.lemmas.Bool.{cond-false, le-ltb}
@@ -37,7 +37,7 @@ module _ (kept : List Layout) (at count : ℕ) (within : at + count ≤ length (
         let is = part_is in
         is ∙ front_is count (paragraph_end kept at - at) (drop at (text_of kept)) ∙ ap (λ (cs : List ℕ). take (length cs) (drop at (text_of kept))) (sym is)
 
--- the front of an array has the characters of a range, also after one more part was copied to it
+-- if an array begins with the first `done` characters of a range, copying the next part to it extends these characters
 pub next_part : (text part array written : List ℕ) (pos done k : ℕ) → part ≡ take (length part) (drop (pos + done) text) → written ≡ part
     → done ≤ length array → take done array ≡ take done (drop pos text)
     → take (done + length part) (put_mid done k array written) ≡ take (done + length part) (drop pos text)

@@ -21,6 +21,6 @@ runs_few levels =
       length-order levels,
     )
 
--- an iterator initially has as many runs as the levels
+-- a new iterator has as many runs as the levels have
 pub length-runs : (levels : List ℕ) (runs : List Run) → runs ≡ runs_of levels → length runs ≡ length (runs_out levels)
 length-runs levels runs is = ap (λ (s : List Run). length s) is ∙ sym (length-map (runs_of levels) run_out)

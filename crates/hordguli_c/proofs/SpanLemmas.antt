@@ -1,4 +1,4 @@
--- The number of spans, and copying items to an array one after another.
+-- Bounds on the number of spans, and copying items to an array one after another.
 use Rattle.std.proofs.Common.{◌≡◌, ℕ, zero, suc, add-one, ◌+◌, ◌<◌, ◌≤◌, ◌-◌, List, [], ◌∷◌, ◌++◌, length, drop, filter, refl, sym, ap, ap₂, ◌∙◌, arith, append-nil}
 use Rattle.std.proofs.Math.Seq.{set-append_seam}
 use Rattle.std.proofs.Math.ListN.{set}
@@ -71,7 +71,7 @@ put_next all array_old array rest x k within put =
           ∙ sym (append_assoc put.done (x ∷ []) (drop (k + 1) array_old));
     }
 
--- an iterator initially has as many spans as the range
+-- a new iterator has as many spans as the range has
 pub length-out : (line : Visual) (from to : ℕ) (spans : List Span) → spans ≡ spans_of line from to
     → length spans ≡ length (spans_out line from to)
 length-out line from to spans is = ap (λ (s : List Span). length s) is ∙ sym (length-map (spans_of line from to) span_out)

@@ -8,7 +8,7 @@ abbrev pub put : {A : Type 0} → List A → List A → List A
 put list array = list ++ drop (length list) array
 
 -- `put_if` copies a list to an array if a caller requested the array. `has_room` is true if `len` elements
--- fit in the array or it was not requested.
+-- fit in the array or the array was not requested.
 abbrev pub put_if : Bool → List ℕ → List ℕ → List ℕ
 put_if wanted list array = if wanted then put list array else array
 

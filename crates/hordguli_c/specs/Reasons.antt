@@ -1,4 +1,4 @@
--- The results of the functions that return how levels and break marks come about.
+-- The results of the functions that report which rules determine levels and break marks.
 use Rattle.std.specs.Prelude.{◌≡◌, ℕ, ◌-◌, ◌^◌, ◌<◌, ◌≤◌, Bool, List, [], ◌∷◌, length, map, min, replicate, All, Option, Some, None}
 use Rattle.std.specs.Char.{IsScalar}
 use Rattle.ucd.specs.declared.bidi_class.BidiClass.{BidiClass}
@@ -24,7 +24,7 @@ use Rattle.hordguli_c.specs.declared.reason_calls.ReasonOut.{ReasonOut}
 use Rattle.hordguli_c.specs.declared.status.Status.{Status}
 use Rattle.hordguli_c.specs.declared.status.Status.TheVariants as is
 
--- The number that stands for no position. A paragraph that is longer is refused.
+-- The value of a position that does not exist. Longer paragraphs are refused.
 abbrev pub no_position : ℕ
 no_position = 2 ^ 32 - 1
 
@@ -190,7 +190,7 @@ reason_with reason None = removed_out reason
 abbrev pub reason_out : LevelReason → ReasonOut
 reason_out reason = reason_with reason reason.resolved
 
--- ---- both
+-- ---- levels and break marks
 
 -- one record for each character is stored, if the records fit in the array and their positions in 32 bits
 abbrev pub PutsRecords : {R : Type 0} → (List ℕ → List R) → List ℕ → Status → List R → List R → Type 0
@@ -199,7 +199,7 @@ PutsRecords records characters status old new =
     (Given (length characters < no_position) is.OutOfRange status (new ≡ old)
     (OfCharacters characters status (new ≡ old) ((status ≡ is.Ok) × (new ≡ put (records characters) old))))
 
--- how the level of each character of a paragraph comes about (UAX #9)
+-- how the rules determine the level of each character of a paragraph (UAX #9)
 unfoldable pub level_reasons : Tables → Base → List ℕ → List ReasonOut
 level_reasons tables base text = map reason_out (level_reasons_of tables text base)
 

@@ -13,7 +13,7 @@ use Rattle.store.specs.contracts.tree_store.TreeStoreParagraphStore.TheImpl as s
 use Rattle.session.specs.Sessions.{SessionState}
 use Rattle.hordguli_c.specs.Held.{the_global}
 
--- the value that stands for a session in contracts
+-- the value that represents a session in contracts
 abbrev pub Value : Type 0
 Value = SessionState
 

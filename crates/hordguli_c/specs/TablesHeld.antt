@@ -9,7 +9,7 @@ use Rattle.ucd.specs.declared.tables.Tables.{Tables}
 use Rattle.hordguli_c.specs.Held.{the_global}
 use Rattle.hordguli_c.specs.contracts.tables_object.TablesObject as object
 
--- the value that stands for tables in contracts
+-- the value that represents tables in contracts
 abbrev pub Value : Type 0
 Value = Tables
 

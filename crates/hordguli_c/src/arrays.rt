@@ -91,7 +91,8 @@ pub fn put_marks(marks: &[Mark], array: &mut [u8])
     put_each_mark(marks, &mut array[..marks.len()]);
 }
 
-/// Returns whether the array is not `wanted` (it is NULL), or `len` elements fit in a capacity of `room`.
+/// Returns whether `len` elements fit in an array with a capacity of `room`, or the array is not `wanted`
+/// because its pointer is NULL.
 pub fn has_room(wanted: bool, len: usize, room: usize) -> bool
     ensures { result ≡ has_room wanted len room }
 {

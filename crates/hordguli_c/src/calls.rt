@@ -1,4 +1,4 @@
-//! The form of a call that works on the object of a handle.
+//! A macro for functions that use the object of a handle.
 
 /// Takes the object out of a handle, makes a call with it, and puts it back. Returns the number of the call's
 /// status, or that of `Closed` if the handle has no object.

@@ -1,4 +1,4 @@
-//! Functions that return how the levels and break marks of a paragraph come about.
+//! Functions that report which rules determine the levels and break marks of a paragraph.
 ghost use Rattle.std.specs.Prelude.{◌≡◌, ◌<◌, ◌≤◌, length, map, IfOk, OnErr};
 ghost use Rattle.hordguli_c.specs.Arrays.{put};
 ghost use Rattle.hordguli_c.specs.Calls.{AsksBy};
@@ -21,13 +21,13 @@ use breaks::{LineRule, Reason, reasons};
 use std::alloc::{AllocError, Global};
 use ucd::{BidiClass, LineClass, Tables};
 
-// Stands for no position.
+// The value of a position that does not exist.
 const NO_POSITION: usize = 0xFFFF_FFFF;
 
-// Stands for no class.
+// The value of a class that does not exist.
 const NO_CLASS: u8 = 0xFF;
 
-/// How the level of a character comes about (`hordguli_reason` in C).
+/// How the rules determine the level of a character (`hordguli_reason` in C).
 #[repr(C)]
 #[derive(Clone, Copy)]
 pub struct ReasonOut {
@@ -203,7 +203,7 @@ fn find_break_reasons(
     }
 }
 
-/// Stores why the break mark after each character of a paragraph is as it is.
+/// Stores which rule determines the break mark after each character of a paragraph.
 #[unsafe(no_mangle)]
 pub extern "C" fn hordguli_core_break_reasons(
     alloc: Global,
@@ -404,7 +404,7 @@ fn find_reasons(
     }
 }
 
-/// Stores how the level of each character of a paragraph comes about.
+/// Stores how the rules determine the level of each character of a paragraph.
 #[unsafe(no_mangle)]
 pub extern "C" fn hordguli_core_reasons(
     alloc: Global,

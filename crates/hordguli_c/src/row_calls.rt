@@ -30,9 +30,9 @@ use reorder::{ClusterClasses, reset_levels, visual_order};
 use std::alloc::{AllocError, Global};
 use ucd::{Tables, TextClasses};
 
-/// States, as a theorem, that a line of a paragraph is the row of its characters. All characters of the line
-/// must be shown. The clusters of the line must be the same for its characters alone, or must not matter.
-/// Costs nothing at run time.
+/// States, as a theorem, that a line of a paragraph equals the row of its characters. All characters of the
+/// line must be shown. With `reorder_clusters`, the line must have the same clusters as its characters have
+/// alone. Costs nothing at run time.
 pub fn row_is_line()
     ensures { (tables : Tables) (options : Options) (margin : Option ℕ) (base : ℕ) (text levels : List ℕ)
         (infos : List CharInfo) (start stop : ℕ)

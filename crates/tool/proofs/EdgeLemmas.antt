@@ -43,7 +43,7 @@ at_place P [] n line all is = absurd (none-some line (sym is))
 at_place P (x ∷ lines) zero line all is = subst P (sym (same_some line x is)) (All-head P x lines all)
 at_place P (x ∷ lines) (suc n) line all is = at_place P lines n line (All-tail P x lines all) is
 
--- an edge of a character is no further to the right than the columns of the line, counted twice
+-- the column of an edge of a character is at most twice the number of columns of its line
 module _ (line : Visual) where
   abbrev pub whole : ℕ
   whole = columns_left line (length line.vtol)

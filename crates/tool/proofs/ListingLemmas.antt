@@ -103,7 +103,7 @@ all-after : {A : Type 0} (P : A → Type 0) (done rest : List A) → All P (done
 all-after P [] rest all = all
 all-after P (x ∷ done) rest all = all-after P done rest (All-tail P x (done ++ rest) all)
 
--- the next span has columns, and is within the line
+-- the next span has at least one column, and is within the line
 pub next-within : (is_covered : ℕ → Bool) (width : ℕ) (all done rest : List Span) (span : Span) → AreMaximal is_covered width all → done ++ span ∷ rest ≡ all
     → (span.left < span.right) × (span.right ≤ width)
 next-within is_covered width all done rest span are is = (

@@ -262,7 +262,7 @@ module _ (rules : Rules) (options : ScriptOptions) (start : SessionState) (reade
           subst (λ (s : SessionState). IsScriptRun rules options start s reader_old reader writer_old writer_new (Err fault)) (sym not.state)
           (subst (λ w. IsScriptRun rules options start now reader_old reader writer_old w (Err fault)) (sym not.writer) (ends_unkept not.front not.after not.whole not.none new fault not.grows))
 
-    -- ---- no bytes wait
+    -- ---- no bytes are waiting
     module _ (at : IsAt rules options start reader_old reader writer_old writer now reading []) where
       all_parts : slice_split is_line_end at.bytes ≡ at.done ++ reading.line.items ∷ []
       all_parts =
@@ -422,7 +422,7 @@ module _ (rules held_rules : Rules) (options : ScriptOptions) (start : SessionSt
         fails = failed;
       }
 
--- the fault with which a run ended
+-- the fault with which a run ended; `Read` if it did not fail
 abbrev fault_in : {T : Type 0} → Result T RunFault → RunFault
 fault_in (Ok done) = f.Read
 fault_in (Err fault) = fault

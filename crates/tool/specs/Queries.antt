@@ -38,7 +38,7 @@ use Rattle.text_run.specs.declared.faults.RunFault.TheVariants as f
 use Rattle.script_commands.specs.declared.commands.Query.{Query}
 use Rattle.script_commands.specs.declared.commands.Query.TheVariants as ask
 
--- numbers, with a space before each
+-- the numbers as text, with a space before each
 abbrev pub listed : List ℕ → List ℕ
 listed numbers = flat_map (λ n. codes " " ++ decimal n) numbers
 
@@ -58,7 +58,8 @@ told_of None = out_of_range
 abbrev pub told_count : ℕ → List ℕ
 told_count count = codes "= " ++ decimal count
 
--- the reply that consists of this start, the numbers of each item, with a space before each number, and a newline
+-- A reply that lists items: it begins with `told_count`, and ends with a newline. Between these are the numbers of each
+-- item, with a space before each number.
 abbrev pub told_each : {A : Type 0} → (A → List ℕ) → List A → List ℕ
 told_each numbers items = told_count (length items) ++ flat_map (λ item. listed (numbers item)) items ++ codes "\n"
 

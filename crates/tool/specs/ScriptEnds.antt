@@ -26,7 +26,7 @@ abbrev pub executed_lines : List (List ℕ) → ℕ → Option RunFault → List
 executed_lines lines k (Some (fault.Write n)) = take (k + 1) lines
 executed_lines lines k stop = take k lines
 
--- an allocation failed, either before any read or after a read of bytes beyond the lines that were replied to
+-- an allocation failed, either before anything was read, or after bytes were read beyond the lines that were replied to
 abbrev pub WantsMore : List (List ℕ) → Device → Device → Option RunFault → Type 0
 WantsMore done old new (Some fault.Memory) =
     ((length done ≡ 0) × (new.passed ≡ old.passed)) ⊎ (old.passed + length (with_ends done) < new.passed)

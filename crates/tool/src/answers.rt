@@ -19,8 +19,7 @@ use std::alloc::AllocError;
 use store::ParagraphStore;
 use text_run::RunFault;
 
-/// The maximum length of a reply in bytes: three numbers of 20 digits, and 5 bytes before, between and after
-/// them.
+/// The maximum length of a reply in bytes: three numbers of 20 digits each, and 5 other bytes.
 pub const ANSWER_ROOM: usize = 65;
 
 /// The bytes of a reply.
@@ -36,7 +35,7 @@ pub fn answer_of(edit: &Result<Damage, EditFault>) -> Answer
     }
 }
 
-/// Returns a reply of at most three numbers, on one line.
+/// Returns a reply that consists of at most three numbers on one line.
 pub fn told(numbers: &[usize]) -> Answer
     requires { length numbers.now ≤ 3 }
     ensures { result.items ≡ told numbers.now }
@@ -51,7 +50,7 @@ pub fn told(numbers: &[usize]) -> Answer
     answer
 }
 
-/// Returns numbers, at most three, with a space before each.
+/// Returns at most three numbers as text, with a space before each.
 pub fn listed(numbers: &[usize]) -> Answer
     requires { length numbers.now ≤ 3 }
     ensures { result.items ≡ listed numbers.now }

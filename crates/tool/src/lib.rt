@@ -1,4 +1,4 @@
-//! The command: its arguments, how a text or an edit script is run, and why the program ends.
+//! The command: its arguments, how a text is printed, how an edit script is run, and why the program ends.
 //!
 //! `settings` reads the arguments, and `run_text` prints a text. `open_text` opens a session on the bytes of
 //! a text, and `run_script` executes a script in it. `run_script_in` does the same in a borrowed session, and

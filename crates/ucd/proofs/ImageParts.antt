@@ -1,4 +1,4 @@
--- Numbers in bytes that show a part.
+-- Bytes that equal a part of an image have the same numbers, pairs and checksum as that part.
 use Rattle.std.proofs.Common.{◌==◌, ◌≡◌, ℕ, codes, zero, suc, ◌+◌, ◌-◌, ◌*◌, ◌/◌, ◌%◌, ◌<◌, ◌≤◌, nat_lt, List, [], ◌∷◌, ◌++◌, Option, Some, None, MatchOption, length, take, get_or, below_more, if◌then◌else◌, refl, sym, ◌∙◌, ap, subst, inl, inr, arith}
 use Rattle.std.proofs.lemmas.Bool.{cases_eq}
 use Rattle.std.proofs.lemmas.Bool.Decides.{nat_tests}
@@ -22,7 +22,7 @@ module _ (bytes : List ℕ) (at : ℕ) (part : List ℕ) (from count : ℕ) (sho
   unfolding u64_at
   u64_shown i j least most is = rw (u32_shown i j least (omega arith) is, u32_shown (i + 4) (j + 4) (omega arith) (omega arith) (omega arith)) refl
 
-  -- bytes that show a part also show fewer of its items
+  -- if bytes equal those of a part, the same holds for fewer bytes
   pub shows_less : (less : ℕ) → less ≤ count → Shows bytes at part from less
   shows_less less le = record { each = λ i j least most is. shows.each i j least (omega arith) is }
 
@@ -57,7 +57,7 @@ checksum_shown bytes part (suc k) shows =
     let rest : checksum bytes k ≡ checksum part k = checksum_shown bytes part k (shows_less bytes 0 part 0 (8 * suc k) shows (8 * k) (omega arith)) in
     rw (rest, u64_shown bytes 0 part 0 (8 * suc k) shows (8 * k) (8 * k) (omega arith) (omega arith) (omega arith)) refl
 
--- the bytes before appended ones stay the same
+-- a concatenation begins with the bytes of its first list, and ends with those of its second list
 pub shows_front : (front back : List ℕ) → Shows (front ++ back) 0 front 0 (length front)
 shows_front front back = record { each = λ i j least most is. (let same : i ≡ j = omega arith in rw same (get_or_append_left front back 0 j (omega arith))) }
 
@@ -74,7 +74,7 @@ shows_through bytes at mid part from count n outer inner le = record {
   each = λ i j least most is. outer.each i i (omega arith) (omega arith) (omega arith) ∙ inner.each i j least most is;
 }
 
--- appending the low byte and then the high byte appends a number of 16 bits
+-- appending the low byte and then the high byte appends a 16-bit number
 pub adds_16 : (old : List ℕ) (number : ℕ) → Adds16 old ((old ++ (number % 256) ∷ []) ++ (number / 256) ∷ []) number
 unfolding u16_at
 adds_16 old number =
@@ -89,7 +89,7 @@ adds_16 old number =
       here = rw (first, second) (omega arith);
     }
 
--- appending the lower and then the upper half appends a number of 32 bits
+-- appending the lower and then the upper half appends a 32-bit number
 pub adds_32 : (old mid new : List ℕ) (number : ℕ) → Adds16 old mid (number % 65536) → Adds16 mid new (number / 65536) → Adds32 old new number
 unfolding u32_at
 adds_32 old mid new number low high =
@@ -153,7 +153,7 @@ header_is b0 b1 b2 b3 b4 b5 a b c d e len one two three four five =
       e_is = number_here b4 b5 e 28 five l4;
     }
 
--- one more number in a list of numbers of 16 bits
+-- the k 16-bit numbers of `old` are also in `new`, followed by `number`
 pub record Has16 (old new : List ℕ) (number k : ℕ) : Type 0 where
   pub len : length new ≡ 2 * (k + 1)
   pub before : (j : ℕ) → j < k → u16_at new (2 * j) ≡ u16_at old (2 * j)
@@ -218,11 +218,11 @@ module _ {V : Type 0} (decode : ℕ → Option V) (value_of : ℕ → Option V) 
   points_next old new c None within is are same = rw same (points_same old c are is)
   points_next old new c (Some value) within is are adds = points_pair old new c value within are is adds
 
--- `Shows` also holds at equal numbers
+-- `Shows` still holds if its numbers are replaced with equal ones
 pub shows_at : (bytes : List ℕ) (at at' : ℕ) (part : List ℕ) (count count' : ℕ) → Shows bytes at part 0 count → at ≡ at' → count ≡ count' → Shows bytes at' part 0 count'
 shows_at bytes at at' part count count' shows same_at same_count = record { each = λ i j least most is. shows.each i j (omega arith) (omega arith) (omega arith) }
 
--- appending the low and the high half appends a number of 64 bits
+-- appending the low and the high half appends a 64-bit number
 pub adds_checksum : (old mid new : List ℕ) (sum : ℕ) → sum ≡ checksum old (length old / 8) → Adds32 old mid (sum % 4294967296) → Adds32 mid new (sum / 4294967296) → AddsChecksum old new
 unfolding u64_at
 adds_checksum old mid new sum is low high =
@@ -238,12 +238,12 @@ adds_checksum old mid new sum is low high =
       here = rw (first, second) (whole ∙ is);
     }
 
--- the version with a version's number is this version
+-- decoding the number of a version yields the version
 number_version : (version : Version) → (if version_number version == 0x0011_0000 then V17_0 else V15_0) ≡ version
 number_version V15_0 = refl
 number_version V17_0 = refl
 
--- ---- the parts one after another
+-- ---- the concatenated parts
 module _ (version : Version) (head index pages brackets mirrors bytes : List ℕ)
     (is : IsHeader (codes "hordguli-ucd") head 1 (version_number version) (length pages / 512) (length brackets / 8) (length mirrors / 8))
     (index_len : length index ≡ 8704) (pages_whole : length pages % 512 ≡ 0) (brackets_whole : length brackets % 8 ≡ 0) (mirrors_whole : length mirrors % 8 ≡ 0)

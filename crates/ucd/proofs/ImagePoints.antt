@@ -6,7 +6,7 @@ use Rattle.ucd.specs.Answers.{PropertyAnswers, answers_in}
 use Rattle.ucd.specs.Images.{bits_at, point_at, point_value, found, IsPoint, ArePoints, AreFlags}
 
 module _ {V : Type 0} (decode : ℕ → Option V) (bytes : List ℕ) (start : ℕ) where
-  -- pair k assigns its value to its code point
+  -- one more pair assigns its value to its code point, and does not change the values of other code points
   pub found_more : (k c : ℕ) → found decode bytes start (k + 1) c
       ≡ (if point_at decode bytes start k == c then point_value decode bytes start k else found decode bytes start k c)
   unfolding found
@@ -21,7 +21,7 @@ module _ {V : Type 0} (decode : ℕ → Option V) (bytes : List ℕ) (start : �
     value = ap is_some is;
   }
 
-  -- a code point with a value is that of a pair, and the code point of each pair has a value
+  -- a code point has a value if and only if it is the code point of a pair
   pub pair_of : (count c : ℕ) → IsSome (found decode bytes start count c) → (k : ℕ) × (k < count) × (point_at decode bytes start k ≡ c)
   unfolding found
   pair_of zero c some = cc

@@ -51,7 +51,7 @@ entry_of version bits is = record {
 }
 
 module _ (bytes : List ℕ) (known : ArePagesKnown bytes) (valid : AreEntries bytes) (c : ℕ) (lt : c < 1114112) where
-  -- the place of a code point is inside the pages
+  -- the index of a code point's entry is within the pages
   pub place_within : page_number bytes (c / 256) * 256 + c % 256 < 256 * page_count bytes
   place_within = omega (arith, known (c / 256) (omega arith))
 

@@ -25,7 +25,7 @@ unfolding singles
 singles_same f g zero same = refl
 singles_same f g (suc n) same = rw (singles_same f g n (λ c lt. same c (omega arith)), same n (omega arith)) refl
 
--- the class of a table entry, changed
+-- the class of a code point, which is S if it is a rare separator of class B
 abbrev class_in : TableContents → ℕ → BidiClass
 class_in t c = class_for_lines c (unwrap_or (value_at t.bidi_classes c) (default_class t.version c))
 

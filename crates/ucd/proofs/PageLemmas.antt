@@ -88,7 +88,7 @@ pages_again answers entries index place number before some is same =
     rw is ((rw (p, at) at known) ∙ same k lt) in
     block_more answers entries entries [] index place number before before.whole (omega arith) (omega arith) (rw is (before.within (place - 1) (omega arith))) (λ i lt. refl) here
 
--- ---- a page that is written from a run on
+-- ---- filling a page with the properties of runs
 pub filled_more : (answers : ℕ → PropertyAnswers) (old new : List PropertyAnswers) (properties : PropertyAnswers) (start point stop : ℕ) → start ≤ point → point ≤ stop
     → ((i : ℕ) → i < point - start → get_or old i unnamed ≡ answers (start + i)) → ((c : ℕ) → point ≤ c → c < stop → answers c ≡ properties)
     → ((i : ℕ) → get_or new i unnamed ≡ (if nat_le (point - start) i && nat_lt i (stop - start) then properties else get_or old i unnamed))
@@ -144,7 +144,7 @@ valid_next version entries page old new i = elim (cases_lt i (length entries)) [
   | inr from ↦ rw (get_or-append_right entries page (length entries) i unnamed refl from) (new (i - length entries))
 ]
 
--- a part of valid entries is valid
+-- the properties of a character that no line lists are valid, so a part of valid entries is valid even past the end
 unnamed_valid : (version : Version) → IsEntryOf version unnamed
 unnamed_valid V15_0 = record { apart = refl; number = omega arith }
 unnamed_valid V17_0 = record { apart = refl; number = omega arith }

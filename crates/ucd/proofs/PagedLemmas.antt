@@ -73,8 +73,7 @@ mark_by true false apart = refl
 mark_by false true apart = refl
 mark_by false false apart = refl
 
--- a character is a future pictograph if and only if that flag is set, and wide if and only if that flag is
--- set
+-- a character is a future pictograph if and only if its flag for this is set, and the same holds for wide characters
 abbrev pictograph_if : Bool → Option Pictograph
 pictograph_if future = if future then Some (record {}) else None
 

@@ -172,7 +172,7 @@ module _ (line : List ℕ) (f s n m h : ℕ) (some : 0 < f) (fs : f ≤ s) (sn :
       ∙ ap (λ part. part ∷ trimmed (is_one_of spaces) (drop (s + 1) (take m line)) ∷ []) first_field
       ∙ ap (λ part. take f line ∷ part ∷ []) second_field
 
-  -- a field that holds these code points makes the line plain
+  -- if the first field holds these code points, the line is plain
   pub plain_line : (x y : ℕ) → points_of true (take f line) ≡ Some (x, y) → IsPlain line x y (take (m - n) (drop n line))
   plain_line x y points = record { ascii = plain_ascii; some = plain_some; field = take f line; fields = plain_fields; points = points }
 

@@ -75,7 +75,7 @@ module _ {V : Type 0} where
     | inr outside ↦ covering_later c e es outside ∙ covering_none es c (sym (value_later c e es outside) ∙ none)
   ]
 
-  -- a value is that of an entry that covers the code point
+  -- if a code point has a value, an entry that covers it has the same value
   entry_of_value : (es : List (Entry V)) (c : ℕ) (v : V) → value_at es c ≡ Some v → (e : Entry V) × Contains es e × (covers e c ≡ true) × (e.value ≡ v)
   entry_of_value [] c v is = absurd (let no : ⊥ = cc in no)
   entry_of_value (e ∷ es) c v is = elim (cases_Bool (covers e c)) [

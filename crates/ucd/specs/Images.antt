@@ -22,15 +22,15 @@ use Rattle.ucd.specs.declared.version.Version.{Version}
 use Rattle.ucd.specs.declared.version.Version.TheVariants.{V15_0, V17_0}
 use Rattle.ucd.specs.Versions.{number_count}
 
--- the number in the two bytes from byte i
+-- the 16-bit number at the offset i
 unfoldable pub u16_at : List ℕ → ℕ → ℕ
 u16_at bytes i = slice_index bytes i + 256 * slice_index bytes (i + 1)
 
--- the number in the four bytes from byte i
+-- the 32-bit number at the offset i
 unfoldable pub u32_at : List ℕ → ℕ → ℕ
 u32_at bytes i = u16_at bytes i + 65536 * u16_at bytes (i + 2)
 
--- the number in the eight bytes from byte i
+-- the 64-bit number at the offset i
 unfoldable pub u64_at : List ℕ → ℕ → ℕ
 u64_at bytes i = u32_at bytes i + 4294967296 * u32_at bytes (i + 4)
 

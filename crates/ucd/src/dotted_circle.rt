@@ -20,7 +20,7 @@ static CIRCLES: [Entry<Circle>; 1] = [Entry {
     value: Circle,
 }];
 
-/// Returns the code points marked as the dotted circle.
+/// Returns the code points that are marked as the dotted circle in a version.
 pub fn circles(version: Version) -> &'static [Entry<Circle>]
     ensures entries { result.now ≡ circle_entries version }
     ensures rising { AreRisingFrom 0 result.now }

@@ -2,7 +2,7 @@
 ghost use Rattle.std.specs.Prelude.{◌≡◌, ◌+◌, ◌*◌, ◌≤◌, length};
 ghost use Rattle.ucd.specs.Images.{u16_at, u32_at, u64_at, checksum};
 
-/// Returns the number in the two bytes from byte `i`.
+/// Returns the 16-bit number at the offset `i`.
 #[tactic(auto, unfolding(crate::specs::Images::u16_at))]
 pub fn u16_at(bytes: &[u8], i: usize) -> u16
     requires { i + 2 ≤ length bytes.now }
@@ -11,7 +11,7 @@ pub fn u16_at(bytes: &[u8], i: usize) -> u16
     u16::from(bytes[i]) + 256 * u16::from(bytes[i + 1])
 }
 
-/// Returns the number in the four bytes from byte `i`.
+/// Returns the 32-bit number at the offset `i`.
 #[tactic(auto, unfolding(crate::specs::Images::u32_at))]
 pub fn u32_at(bytes: &[u8], i: usize) -> u32
     requires { i + 4 ≤ length bytes.now }
@@ -20,7 +20,7 @@ pub fn u32_at(bytes: &[u8], i: usize) -> u32
     u32::from(u16_at(bytes, i)) + 0x1_0000 * u32::from(u16_at(bytes, i + 2))
 }
 
-/// Returns the number in the eight bytes from byte `i`.
+/// Returns the 64-bit number at the offset `i`.
 #[tactic(auto, unfolding(crate::specs::Images::u64_at))]
 pub fn u64_at(bytes: &[u8], i: usize) -> u64
     requires { i + 8 ≤ length bytes.now }

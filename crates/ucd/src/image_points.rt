@@ -38,8 +38,8 @@ pub trait Point: Copy + Drop {
         ensures { result ≡ flag properties };
 }
 
-// Decodes the pair at a byte. Returns the code point and its value, if the code point is at least `next` and
-// the second number encodes a value.
+// Decodes the pair at an offset. Returns the code point and its value, if the code point is at least `next`
+// and the second number encodes a value.
 fn pair_at<P: Point>(bytes: &[u8], at: usize, next: u32) -> Option<(u32, P)>
     requires { at + 8 ≤ length bytes.now }
     ensures { MatchOption result
@@ -58,7 +58,7 @@ fn pair_at<P: Point>(bytes: &[u8], at: usize, next: u32) -> Option<(u32, P)>
     }
 }
 
-/// Returns a map of the pairs from byte `start` on. Returns `None` if their code points are out of range or
+/// Returns a map of the pairs from the offset `start` on. Returns `None` if their code points are out of range or
 /// not in ascending order, or if a number encodes no value.
 pub fn points_in<P: Point>(
     alloc: Global,
