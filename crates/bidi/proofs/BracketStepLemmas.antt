@@ -40,7 +40,7 @@ if-same : {T : Type 0} (b : Bool) (x : T) → (if b then x else x) ≡ x
 if-same true x = refl
 if-same false x = refl
 
--- the marks after a bracket go on at a mark, and end at any other character
+-- the run of marks after a bracket continues at a mark, and ends at any other character
 set-more : (marks : List Bool) (p k : ℕ) → p ≤ k → suc k < length marks → get_or marks (suc k) false ≡ true → is_set_with marks p (suc k) ≡ is_set_with marks p k
 set-more marks p k order within mark =
     elim (cases_Bool (is_set_with marks p k)) [
@@ -69,7 +69,7 @@ and-true : (a b : Bool) → b ≡ true → (a && b) ≡ a
 and-true true b e = e
 and-true false b e = refl
 
--- carrying along the bracket with which N0 sets the type of a mark finds the same bracket as the definition
+-- a pass that carries along the bracket with which N0 sets marks finds the same bracket as the definition
 pub holder-is : (sets : ℕ → Bool) (marks : List Bool) (k : ℕ) → k < length marks
     → greatest (λ p. sets p && is_set_with marks p k) k ≡ (if get_or marks k false then holder sets marks k else None)
 holder-is sets marks zero within = sym (if-same (get_or marks 0 false) None)

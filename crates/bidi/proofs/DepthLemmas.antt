@@ -13,13 +13,13 @@ use Rattle.bidi.specs.Explicit.{close_embedding, close_isolate, depth, inside, o
 use Rattle.bidi.specs.Openers.{innermost, statuses, updated}
 use Rattle.bidi.proofs.OpenersLemmas.{adds}
 
--- no number is found by a test that fails for all of them
+-- `greatest` finds no number if the test fails for all numbers
 pub greatest-none : (test : ℕ → ℕ → Bool) (k : ℕ) → ((i : ℕ) → test i 0 ≡ false) → greatest (λ i. test i 0) k ≡ None
 greatest-none test zero fails = refl
 greatest-none test (suc k) fails = cond-false (test k 0) (Some k) (greatest (λ i. test i 0) k) (fails k) ∙ greatest-none test k fails
 
 module _ (base : ℕ) where
-  -- an opener adds at most one
+  -- one more opener increases the depth by at most 1
   depth-cases : (opener : BidiClass) (outer : List BidiClass) → (depth base outer ≤ depth base (opener ∷ outer)) × (depth base (opener ∷ outer) ≤ depth base outer + 1)
   depth-cases opener outer =
       elim (cases_Bool ((inside base (opener ∷ outer)).is_void)) [
@@ -39,7 +39,7 @@ module _ (base : ℕ) where
             ∙ ap (λ n. n + 1) (statuses-depth outer ∙ sym (cond-false ((inside base (opener ∷ outer)).is_void) (depth base outer) (depth base outer + 1) live))
       ]
 
-  -- closing openers adds none
+  -- closing openers does not increase the depth
   pub depth-drop : (n : ℕ) (chain : List BidiClass) → depth base (drop n chain) ≤ depth base chain
   depth-drop zero chain = omega arith
   depth-drop (suc n) [] = omega arith
@@ -61,7 +61,7 @@ module _ (base : ℕ) where
         | inr none ↦ rw (cond-false (list_any is_initiator chain) (drop (prefix_len (λ o. not (is_initiator o)) chain + 1) chain) chain none) (omega arith)
       ]
 
-  -- a character opens at most one opener
+  -- a character increases the depth by at most 1
   depth-after : (chain : List BidiClass) (class : BidiClass) → depth base (open_after chain class) ≤ depth base chain + 1
   depth-after chain RLE = (depth-cases RLE chain).1
   depth-after chain LRE = (depth-cases LRE chain).1
@@ -76,8 +76,8 @@ module _ (base : ℕ) where
   pub depth-next : (classes : List BidiClass) (k : ℕ) → k < length classes → depth base (open_chain classes (k + 1)) ≤ depth base (open_chain classes k) + 1
   depth-next classes k within = rw (fold_more open_after [] classes k ON within) (depth-after (open_chain classes k) (class_at classes k))
 
-  -- The indices of the openers that are open before index k and do not overflow, the outermost first. The
-  -- opener with n of them up to and including itself is the last index where fewer than n are open.
+  -- The indices of the openers that are open before index k and do not overflow, the outermost first. The n-th of these
+  -- indices is the last index below k before which fewer than n openers are open.
   pub record AreIndices (classes : List BidiClass) (k : ℕ) (indices : List ℕ) : Type 0 where
     pub size : length indices ≡ depth base (open_chain classes k)
     pub each : (n : ℕ) → 0 < n → n ≤ length indices → greatest (λ i. nat_lt (depth base (open_chain classes i)) n) k ≡ Some (get_or indices (n - 1) 0)
@@ -128,7 +128,7 @@ module _ (base : ℕ) where
         }
       ]
 
-  -- nothing changes where no opener is opened or closed
+  -- characters that open and close no opener do not change the indices
   pub same_indices : (classes : List BidiClass) (n k : ℕ) (indices : List ℕ) → AreIndices classes n indices
       → updated indices (depth base (open_chain classes n)) k ≡ indices
   same_indices classes n k indices are =

@@ -31,7 +31,7 @@ count-same p q same (x ∷ xs) =
     ∙ sym (sum_by-cons (λ i. cond (q i) 1 0) x xs)
 
 module _ (look : ℕ → Option Bracket) where
-  -- whether two characters are equal or both no brackets, and whether this is so at each index of two texts
+  -- whether two characters are equal or neither is a bracket, and whether this holds at each index of two texts
   abbrev pub IsAlike : ℕ → ℕ → Type 0
   IsAlike c d = (c ≡ d) ⊎ ((look c ≡ None) × (look d ≡ None))
 

@@ -109,7 +109,7 @@ module _ (classes : List BidiClass) (k : ℕ) (same : (chain : List BidiClass) �
       ap (λ c. if is_separator c then c else unwrap_or (inside_at base (double k classes) j).override c) (get_or-double k classes j ON)
       ∙ ap (λ state. if is_separator (class_at classes (collapse k j)) then class_at classes (collapse k j) else unwrap_or state.override (class_at classes (collapse k j))) (inside-double base j)
 
--- a type that may be repeated still may be after an override has been applied
+-- if a type may be repeated, it may still be repeated after an override has been applied
 override-repeats : (opener class : BidiClass) → can_be_doubled class ≡ true → can_be_doubled (unwrap_or (override_of opener) class) ≡ true
 override-repeats RLO class is = refl
 override-repeats LRO class is = refl

@@ -134,7 +134,7 @@ last_of-cons : (a b : ℕ) (run : List ℕ) → last_of (a ∷ b ∷ run) ≡ la
 last_of-cons a b run =
     let e : suc (suc (length run)) - 1 ≡ suc (suc (length run) - 1) = omega arith in ap (slice_index (a ∷ b ∷ run)) e
 
--- the last index of a run is the second index of its old last index, if it has two
+-- the last index of a run is the new index of its old last index, or the second one if there are two
 pub record IsLast (k new old : ℕ) : Type 0 where
   pub is : collapse k new ≡ old
   pub next : suc new ≡ shift k (suc old)

@@ -276,7 +276,7 @@ length-weak sos types =
     ∙ length-carry terminator_type ends_row ON separated ∙ length-carry separator_type any ON read ∙ length-map digits w3_type
     ∙ length-carry digit is_strong sos unmarked ∙ length-carry mark (λ type. not (is_mark type)) sos types
 
--- if all types have the paragraph's direction or are neutral, they still do or are after N0
+-- if all types have the paragraph's direction or are neutral, the same holds after N0
 neutral-calm : (left : Bool) → is_calm left ON ≡ true
 neutral-calm true = refl
 neutral-calm false = refl

@@ -33,7 +33,7 @@ module _ {X : Type 0} (p : X → Bool) (xs : List X) (at last : ℕ) (order : la
   abbrev back : List X
   back = drop (at - last) (drop last xs)
 
-  -- the items before one index and those from an earlier index to the end are all items of a list
+  -- all items of a list pass a test if and only if those before one index and those from an earlier index on do
   pub all_overlap : list_all p xs ≡ (list_all p (take at xs) && list_all p (drop last xs))
   all_overlap =
       let rest : list_all p (drop last xs) ≡ (list_all p middle && list_all p back) =

@@ -47,7 +47,7 @@ module _ (is_cut : ℕ → ℕ → Bool) where
       ∙ ap (λ t. t ∷ []) (sym text_is)
 
   -- if a text is a single paragraph and there is a boundary between it and the text after it, it is the first paragraph
-  -- of both
+  -- of the concatenated text
   pub split_before : (text more : List ℕ) (last : Option ℕ) (c a : ℕ) → last ≡ slice_get text (length text - 1) → SplitsAt is_cut text None
       → last ≡ Some a → is_cut a c ≡ true → (0 < length text) × (paragraphs is_cut (text ++ c ∷ more) ≡ text ∷ paragraphs is_cut (c ∷ more))
   split_before text more last c a at_end uncut last_is cut =

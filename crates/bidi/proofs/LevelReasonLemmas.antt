@@ -27,7 +27,7 @@ module _ {X : Type 0} (items : List ℕ) (value : ℕ → X) (old : List X) wher
   abbrev after : ℕ → X → ℕ → List ℕ → X
   after q other k rest = unwrap_or (option_map value (index_from (λ item. item == q) k rest)) (get_or old q other)
 
-  -- before any value is written
+  -- `IsFilled` holds before any value is written
   pub none_filled : IsFilled items value old (length items) old
   none_filled = record {
     size = refl;
@@ -48,7 +48,7 @@ module _ {X : Type 0} (items : List ℕ) (value : ℕ → X) (old : List X) wher
         (cond-false (get_or items k 0 == q) (Some k) (index_from (λ item. item == q) (suc k) (drop (suc k) items)) (ne_eqb (get_or items k 0) q differ))
         ∙ ap (λ n. after q other n (drop n items)) (sym (add-one k))
 
-    -- the value for index k is written at its item
+    -- `IsFilled` still holds after the value for index k is written at its item
     pub more_filled : (j : ℕ) (new : List X) → j ≡ k + 1 → IsFilled items value old j new → get_or items k 0 < length new → IsFilled items value old k (set new (get_or items k 0) (value k))
     more_filled j new next filled fits = record {
       size = length-set new (get_or items k 0) (value k) ∙ filled.size;
@@ -60,14 +60,14 @@ module _ {X : Type 0} (items : List ℕ) (value : ℕ → X) (old : List X) wher
       ];
     }
 
-    -- if the list does not have the index, nothing is written
+    -- `IsFilled` still holds if the item of index k is past the end of the list, so that nothing is written
     pub same_filled : (j : ℕ) (new : List X) → j ≡ k + 1 → IsFilled items value old j new → length new ≤ get_or items k 0 → IsFilled items value old k new
     same_filled j new next filled past = record {
       size = filled.size;
       each = λ q other below. filled.each q other below ∙ ap (λ n. after q other n (drop n items)) next ∙ sym (there q other (omega (arith, filled.size)));
     }
 
--- the indices of all items, written to a list of `None`
+-- writing the index of each item to a list of `None` yields the first index of each number
 or_none : (found : Option ℕ) (other : Option ℕ) → other ≡ None → unwrap_or (option_map Some found) other ≡ found
 or_none None other none = none
 or_none (Some k) other none = refl
@@ -78,7 +78,7 @@ indices_filled items len new filled =
     fill_by_all (index_of items) new len None (filled.size ∙ size)
     (λ q within. filled.each q None (omega arith) ∙ or_none (index_of items q) (get_or (replicate len None) q None) (get_or-replicate len q None None within))
 
--- without sequences, nothing is found
+-- without sequences, no kept character has a reason
 pub none_resolved : (kept : List ℕ) (len : ℕ) → replicate len None ≡ map (resolved_in kept []) (range_with_len 0 len)
 none_resolved kept len = fill_by_all (resolved_in kept []) (replicate len None) len None (length-replicate len None) (λ q within. get_or-replicate len q None None within)
 

@@ -320,7 +320,7 @@ run-lower types old levels level end at some order within fits put =
     ∙ append_assoc (take (at - 1) old) (level ∷ []) (replicate (end - at) level)
     ∙ ap (λ n. take (at - 1) old ++ replicate n level) less
 
--- when it ends, it has written the whole run of neutrals
+-- when the loop ends, it has written the whole run of neutrals
 pub run-lowered : (types : List BidiClass) (start at end : ℕ) → IsRun types start end → at ≤ end
     → ((k : ℕ) (d : BidiClass) → at ≤ k → k < end → is_neutral (get_or types k d) ≡ true)
     → ((k : ℕ) (d : BidiClass) → k + 1 ≡ at → start ≤ k → is_neutral (get_or types k d) ≡ false)

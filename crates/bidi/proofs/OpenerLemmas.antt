@@ -12,7 +12,7 @@ use Rattle.bidi.specs.Explicit.{Applies, depth, inside, Inside, open_after, open
 use Rattle.bidi.proofs.DepthLemmas.{depth-drop, depth-next, greatest-none}
 use Rattle.bidi.proofs.OpenersLemmas.{cases_void}
 
--- a character opens one opener, or closes some
+-- a character either opens one opener, or closes any number of openers
 after-cases : (chain : List BidiClass) (class : BidiClass) → ((opener : BidiClass) × (open_after chain class ≡ opener ∷ chain)) ⊎ ((n : ℕ) × (open_after chain class ≡ drop n chain))
 after-cases chain RLE = inl (RLE, refl)
 after-cases chain LRE = inl (LRE, refl)
@@ -97,8 +97,8 @@ module _ (base : ℕ) where
       ]
 
   module _ (classes : List BidiClass) where
-    -- Where at least n openers that do not overflow are open before index k, the n-th of them is the last index where
-    -- fewer than n are open. After it, the first n are open.
+    -- If at least n openers that do not overflow are open before index k, the n-th of them is at the last index before
+    -- which fewer than n are open. After it, the first n are open.
     pub record IsNth (k n i : ℕ) : Type 0 where
       pub before : i < k
       pub found : greatest (λ j. nat_lt (depth base (open_chain classes j)) n) k ≡ Some i

@@ -40,7 +40,7 @@ steps_length embedding sos eos before (type ∷ types) = ap suc (steps_length em
 pub length-neutral_steps : (embedding sos eos : BidiClass) (types : List BidiClass) → length (neutral_steps embedding sos eos types) ≡ length types
 length-neutral_steps embedding sos eos types = steps_length embedding sos eos [] types
 
--- one more step in a numbered list
+-- appending the step of item k to the steps before it leaves the steps of the items after k to be appended
 pub numbered_more : {T U : Type 0} (f : ℕ → T → U) (done whole : List U) (items : List T) (k : ℕ) (d : T) (step : U) → k < length items → step ≡ f k (get_or items k d)
     → done ++ numbered f k (drop k items) ≡ whole → (done ++ step ∷ []) ++ numbered f (k + 1) (drop (k + 1) items) ≡ whole
 numbered_more f done whole items k d step within is so_far =

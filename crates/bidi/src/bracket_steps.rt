@@ -43,8 +43,8 @@ pub enum BracketCase {
     NotOther,
     /// No other bracket of the sequence forms a pair with this one (BD16).
     NoMatch,
-    /// Pairing stopped at an opening bracket with 63 open ones before it (BD16), and this bracket had no pair
-    /// then.
+    /// Pairing stopped at an opening bracket with 63 open ones before it (BD16), before this bracket was
+    /// paired.
     PastLimit,
 }
 
@@ -53,8 +53,8 @@ pub enum BracketCase {
 pub struct BracketStep {
     /// The case that applies. `Some` for each character that is a bracket according to its bracket type.
     pub case: Option<BracketCase>,
-    /// For a bracket of a pair, the other bracket. For a nonspacing mark whose type N0 sets with that of a
-    /// bracket, this bracket: the nearest one before the mark that gets a direction.
+    /// For a bracket of a pair, the other bracket. For a nonspacing mark whose type N0 sets together with that
+    /// of a bracket, this bracket, which is the nearest one before the mark that gets a direction.
     pub partner: Option<usize>,
     /// The strong type inside the pair that decides. In case B, this is the first one of the embedding
     /// direction. In the cases C1 and C2, it is the first one.
@@ -141,7 +141,7 @@ fn is_past(openers: &[Opener], full: Option<usize>, k: usize) -> bool
     }
 }
 
-// Returns why a bracket has no pair. Its result is used only for a character that has none.
+// Returns why a bracket has no pair. The result is not used for a bracket that has a pair.
 fn unpaired_case(
     openers: &[Opener],
     full: Option<usize>,
@@ -162,7 +162,7 @@ fn unpaired_case(
     }
 }
 
-// Returns for each bracket why it has no pair, whether it has one or not.
+// Returns the result of `unpaired_case` for each character, even for brackets that have a pair.
 fn unpaired_cases(
     alloc: Global,
     kinds: &[BracketType],
@@ -243,7 +243,7 @@ fn direction_in(left: bool, case: BracketCase) -> Option<BidiClass>
     }
 }
 
-// Decides for the pair that opens at an index, if one does, and sets its types.
+// Finds the case of the pair that opens at an index, if there is one, and sets the pair's types.
 fn resolve_at(
     types: &mut [BidiClass],
     explicit: &[BidiClass],

@@ -1,4 +1,4 @@
--- Each character that passes one of the quick tests has that many columns.
+-- Each character that passes one of the quick tests has one column.
 use Rattle.std.proofs.Common.{zero, suc, inl, inr, get_or, length, ◌<◌, ◌≡◌, ℕ, ◌≤◌, nat_le, nat_lt, Bool, true, false, not, ◌&&◌, ◌||◌, List, [], ◌∷◌, Option, Some, None, unwrap_or, if◌then◌else◌, refl, sym, ap, ◌∙◌, arith}
 use Rattle.std.specs.List.{list_all}
 use Rattle.std.proofs.lemmas.Bool.{and_parts, both_ways, cases_Bool, cases_eq, cases_lt, cond-false, cond-true, le-leb}
@@ -25,7 +25,7 @@ has_one kinds.Ambiguous = true
 has_one kinds.Alef = true
 has_one other = false
 
--- whether all characters in the ranges have a kind that passes a test
+-- whether a character is outside the ranges, or has a kind that passes the test
 abbrev in_test : (Kind → Bool) → List Range → ℕ → Bool
 in_test test ranges c = not (in_ranges ranges c) || test (kind c)
 
@@ -74,7 +74,7 @@ bounds first last c lies =
     let parts = and_parts (nat_le first c) (nat_le c last) lies in
     (grind (arith, nat_tests, parts.0), grind (arith, nat_tests, parts.1))
 
--- whether all ranges are in between
+-- whether all ranges are between two bounds
 abbrev are_between : ℕ → ℕ → List Range → Bool
 are_between least most ranges = list_all (λ range. nat_le least range.0 && nat_le range.1 most) ranges
 
@@ -96,7 +96,7 @@ narrow_columns c lies =
 
 -- ---- characters tested together
 
--- Lamed has a rule of its own in `unicode_width`, which assigns it one column.
+-- Lamed has a separate rule in `unicode_width`, which assigns it one column.
 abbrev is_single : Kind → Bool
 is_single kinds.Single = true
 is_single other = false

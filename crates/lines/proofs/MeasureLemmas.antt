@@ -165,7 +165,7 @@ pub kept_untabbed : (tab_width : ℕ) (text sizes : List ℕ) (lines : List Line
 kept_untabbed tab_width text sizes lines none within inside =
     rw none (untabbed_lines (take (length text) sizes) text lines (length-take-le (length text) sizes within) inside)
 
--- with tab stops, it keeps them after the advances
+-- with tab stops, a paragraph keeps these widths after the advances
 pub kept_tabbed : (tab_width : ℕ) (text sizes advances widths rest : List ℕ) (lines : List Line) → 0 < tab_width → sizes ≡ advances ++ (widths ++ rest) → length advances ≡ length text
     → length widths ≡ length text → AreWidthsOf tab_width text advances widths lines
     → AreWidthsOf tab_width text (take (length text) sizes) (kept_widths tab_width text sizes) lines

@@ -1,5 +1,5 @@
--- In lines that are ordered by clusters, the characters of a cluster at one odd level are next to each other from left to right, and so
--- are those of a level run at an even level.
+-- In lines that are ordered by clusters, the characters of a cluster at one odd level are next to each other from left to right. The same
+-- holds for the characters of a level run at an even level.
 use Rattle.std.proofs.Common.{◌≡◌, ℕ, zero, suc, ◌+◌, ◌-◌, ◌<◌, ◌≤◌, ◌==◌, Bool, true, false, not, List, [], ◌∷◌, length, get_or, map, drop, Some, None, refl, sym, ap, subst, ◌∙◌, inl, inr, arith}
 use Rattle.std.specs.Prelude.{◌||◌, option_map, slice_get, slice_range, Option, if◌then◌else◌}
 use Rattle.std.proofs.lemmas.Bool.{and_from, and_parts, both_ways, cases_Bool, cases_eq, cases_lt, eq-eqb, eqb-true}
@@ -74,7 +74,7 @@ module _ (ends : List Bool) (levels : List ℕ) where
             }
       ]
 
-  -- its last character
+  -- the last character of the sequence that a character is in
   record IsOn (i : ℕ) : Type 0 where
     last : ℕ
     from : i ≤ last

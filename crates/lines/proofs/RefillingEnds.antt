@@ -62,8 +62,8 @@ greatest_least p (suc n) k below passed =
 
 -- ---- where the first line ends
 
--- A character before n that does not fit on the first line, or after which the line must end. So the line
--- ends before n, or there is no place at which it both may end and fits.
+-- There is a character before n that does not fit on the first line, or after which the line must end. So the line ends
+-- before n, or there is no position at which it may end and at which it fits.
 abbrev pub Ends : ℕ → ℕ → List CharInfo → Type 0
 Ends width n rest = (m : ℕ) × (m < n) × (m < length rest) × ((fits_to width rest m ≡ false) ⊎ (must_end rest m ≡ true))
 

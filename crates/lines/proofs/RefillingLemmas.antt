@@ -12,7 +12,7 @@ use Rattle.lines.proofs.RefillingEnds.{Ends, is_candidate, candidate_within, sam
 
 -- ---- starts from a line start on
 
--- a paragraph that begins later has the same line starts, but later
+-- if a paragraph begins s positions later, so does each of its lines
 starts_shift : (nobreak : Bool) (width s place left : ℕ) (rest : List CharInfo) → starts nobreak width (s + place) left rest ≡ map (λ k. s + k) (starts nobreak width place left rest)
 starts_shift nobreak width s place zero [] = refl
 starts_shift nobreak width s place (suc left) [] = refl
@@ -91,7 +91,7 @@ second_low nobreak width place i (p ∷ rest) some = omega (arith, start_low nob
 
 -- The paragraph begins at `place`, and a line after the first one starts at s.
 module _ (width place k s : ℕ) (ps : List CharInfo) where
-  -- the line before s, if it is this one, ends at no break opportunity
+  -- if the line before s is the first line, it ends at no break opportunity
   abbrev IsPlain : Type 0
   IsPlain = (e : ℕ) → place + suc e ≡ s → may_end ps e ≡ false
 
@@ -136,7 +136,7 @@ module _ (width place k s : ℕ) (ps : List CharInfo) where
 
 -- ---- starts up to a line start
 
--- the condition also holds without the first character
+-- the condition on k and s also holds if the first character is removed
 later_which : (place k s : ℕ) (p : CharInfo) (ps : List CharInfo) → (may_end (p ∷ ps) (suc k) ≡ true) ⊎ ((e : ℕ) → place + suc e ≡ s → may_end (p ∷ ps) e ≡ false)
     → (may_end ps k ≡ true) ⊎ ((e : ℕ) → suc place + suc e ≡ s → may_end ps e ≡ false)
 later_which place k s p ps (inl may) = inl may
@@ -163,9 +163,9 @@ starts_same nobreak width place (suc left) (suc n) (p ∷ ps) (q ∷ qs) i zero 
 starts_same nobreak width place (suc left) (suc n) (p ∷ ps) (q ∷ qs) i (suc k) s same within is after below candidate which =
     starts_same nobreak width (suc place) left n ps qs i k s (ap (drop 1) same) within is (omega (arith, after)) (omega (arith, below)) candidate (later_which place k s p ps which)
 
--- the line starts up to the i-th, s, are the same in both texts if, at or after s and before n, a line may
--- end or a cluster ends at k, and either the line may end at k or the line before s ends at no break
--- opportunity
+-- The line starts up to the i-th one, s, are the same in both texts under two conditions. First, a line may end or a
+-- cluster ends at a position k from s up to n. Second, a line may end at k, or the line before s ends at no break
+-- opportunity.
 stays_by : (nobreak : Bool) (width : ℕ) (ps qs : List CharInfo) (n i s k : ℕ) → take n ps ≡ take n qs → slice_get (line_starts_of nobreak width ps) i ≡ Some s → s ≤ k → k < n → is_candidate ps k ≡ true
     → (may_end ps k ≡ true) ⊎ (may_end ps (s - 1) ≡ false) → take (suc i) (line_starts_of nobreak width qs) ≡ take (suc i) (line_starts_of nobreak width ps)
 unfolding line_starts_of

@@ -104,7 +104,7 @@ module _ (s : Selection) where
       let takes : 0 < columns_on line w.place = omega (arith, left, right, next_left line w.place (omega (arith, before))) in
       covered_by column w.place (omega (arith, before)) left right ∙ p.passed w.place w.from (omega (arith, before)) takes
 
-  -- the column at which skipping stops is the opposite
+  -- the column at which skipping stops is covered if and only if `inside` does not hold
   covered_at : (inside : Bool) (i j : ℕ) → Passes s inside i j → j < length s.vtol.now → covered (columns_left line j) ≡ not inside
   covered_at inside i j p within =
       let takes : 0 < columns_on line j = p.takes within in

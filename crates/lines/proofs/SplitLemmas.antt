@@ -92,7 +92,7 @@ breaks_at w x before after split =
     let conjunct = none_linked (indic_conjunct_break w) (indic_conjunct_break x) (map indic_conjunct_break before) tests.2 in
     rw (conjunct, no_joiner _ tests.0, no_flag _ tests.0) (parts_of (break_by_pair true (grapheme_cluster_break w) (grapheme_cluster_break x)) (by_pair _ _ tests.0 tests.1))
 
--- looking further back has the same result if the remaining text is the same
+-- a test that may look further back has the same result if looking back has the same result
 goes_on : (a b c d : Bool) → c ≡ d → (a || (b && c)) ≡ (a || (b && d))
 goes_on a b c d same = ap (λ e. a || (b && e)) same
 

@@ -261,7 +261,7 @@ module _ (rules : Rules) (text : List ℕ) where
               (end_here n (omega arith) in_first in_second));
         }
 
--- the fact also holds for equal extents and equal lines
+-- `HaveSamePlace` also holds for equal extents and equal line numbers
 moved : {n : ℕ} (a b c d : LineExtents) (k i m j : ℕ) → a ≡ b → c ≡ d → k ≡ i → m ≡ j → HaveSamePlace n a c k m → HaveSamePlace n b d i j
 moved {n} a b c d k i m j first second left right same =
     subst (λ e. HaveSamePlace n e d i j) first (subst (λ e. HaveSamePlace n a e i j) second (subst (λ x. HaveSamePlace n a c x j) left (subst (λ x. HaveSamePlace n a c k x) right same)))

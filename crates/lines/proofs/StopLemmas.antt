@@ -225,7 +225,7 @@ max_at a [] k within = absurd (omega (arith, within))
 max_at a (x ∷ xs) zero within = omega (arith, max_from (max a x) xs)
 max_at a (x ∷ xs) (suc k) within = max_at (max a x) xs k (omega (arith, within))
 
--- no level is the odd level 0
+-- 0 is not the lowest odd level
 lowest_some : (levels : List ℕ) → lowest_odd levels ≡ Some 0 → ⊥
 lowest_some levels is =
     let top : ℕ = suc (highest levels) in

@@ -185,7 +185,7 @@ advance_measured t n column c size mark ends =
       | inr other ↦ rw other (rw (stays (resolved (line_class_of t c) (is_mark_in t c))) refl)
     ]
 
--- there are as many `CharInfo`s as without advances
+-- replacing columns with advances does not change the number of `CharInfo`s
 pub length-measured : (advances : List ℕ) (ps : List CharInfo) → length (measured advances ps) ≡ length ps
 length-measured advances [] = refl
 length-measured [] (p ∷ ps) = ap suc (length-measured [] ps)

@@ -110,8 +110,8 @@ too_wide : starts 1 (wide ∷ record wide { mark = Must } ∷ []) ≡ 0 ∷ 1 �
 unfolding line_starts_of
 too_wide = refl
 
--- `a bW`, where W has three columns, and `a b c` have the same first three characters. A line start at the end of these, 3,
--- does not mean that the one before it, 2, stays.
+-- `a bW`, where W has three columns, and `a b c` have the same first three characters. A line start at the end of these, at
+-- 3, does not mean that the line start before it, at 2, stays.
 wide_last : starts 3 (letter ∷ last_space ∷ letter ∷ record last { columns = 3 } ∷ []) ≡ 0 ∷ 2 ∷ 3 ∷ []
 unfolding line_starts_of
 wide_last = refl

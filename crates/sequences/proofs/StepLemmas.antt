@@ -40,7 +40,7 @@ pub pen_at_end-part : (pen : Pen) (c : ℕ) (text : List ℕ)
 unfolding pen_at_end
 pen_at_end-part pen c text = pen_after-skip (more_len c text) (after_first_part pen c text) text
 
--- after a step over the first part, what was shown and what the rest shows are still what the text shows
+-- after a step over the first part, the characters shown so far and those of the rest are still those of the whole text
 pub step_text : (pen next : Pen) (before after : List (ℕ × Style)) (c : ℕ) (rest text : List ℕ) (len : ℕ) → text ≡ c ∷ rest → len ≡ suc (more_len c rest)
     → after ≡ before ++ first_shown pen c rest → next ≡ after_first_part pen c rest → after ++ styled next (drop len text) ≡ before ++ styled pen text
 step_text pen next before after c rest text len t l a n =
@@ -57,7 +57,7 @@ step_pen pen next c rest text len t l n =
     ap (λ p. pen_at_end p (drop len text)) n ∙ ap (λ k. pen_at_end (after_first_part pen c rest) (drop k text)) l
     ∙ ap (λ xs. pen_at_end (after_first_part pen c rest) (drop (suc (more_len c rest)) xs)) t ∙ sym (pen_at_end-part pen c rest) ∙ ap (pen_at_end pen) (sym t)
 
--- at the end of the text, what was shown is all of it
+-- at the end of the text, all characters that the text shows have been shown
 pub end_text : (pen : Pen) (shown all : List (ℕ × Style)) (text : List ℕ) (at : ℕ) → length text ≤ at → shown ++ styled pen (drop at text) ≡ all → shown ≡ all
 end_text pen shown all text at end e =
     sym (append-nil shown) ∙ ap (λ xs. shown ++ xs) (sym (styled-none pen)) ∙ ap (λ xs. shown ++ styled pen xs) (sym (drop_of_length-le text end)) ∙ e

@@ -35,6 +35,6 @@ struck after_underline c text = fold (strike after_underline) (record { shown = 
 abbrev pub struck_look : Look → Struck → Look
 struck_look look s = record look { bold = look.bold || s.bold; underline = if s.underlined then Some Single else look.underline }
 
--- underlined, and not bold
+-- whether attributes are underlined and not bold
 abbrev pub is_underlined_only : Look → Bool
 is_underlined_only look = is_some look.underline && not look.bold

@@ -1,4 +1,4 @@
--- The style that a `StyleRef` stands for.
+-- The style that a `StyleRef` represents.
 use Rattle.sequences.specs.Styled.{Style}
 use Rattle.sequences.specs.declared.style.StyleRef.{StyleRef}
 

@@ -32,7 +32,7 @@ START = record { style = DEFAULT; links_len = 0; after_underline = false }
 abbrev pub next_paragraph : Pen → Pen
 next_paragraph pen = record pen { links_len = length pen.style.link }
 
--- SGR
+-- the pen after a control sequence, given its parameters if it is SGR
 abbrev pub with_sgr : Pen → Option (List (List ℕ)) → Pen
 with_sgr pen None = pen
 with_sgr pen (Some parameters) = record pen { style = record { look = applied pen.style.look parameters; link = pen.style.link } }

@@ -18,7 +18,8 @@ pub(crate) fn osc_link(text: &[char]) -> Option<&[char]>
     }
 }
 
-// Returns the link that consists of its parameters, a semicolon and its URI.
+// Returns the link that a string of parameters, a semicolon and a URI sets. The link is empty if the URI is
+// empty. Returns `None` if the string has no semicolon.
 fn uri_link(link: &[char]) -> Option<&[char]>
     ensures { MatchOption result (uri_link link.now ≡ None) (λ found. uri_link link.now ≡ Some found.now) }
 {

@@ -21,14 +21,14 @@ pub enum Underline {
     Dashed,
 }
 
-/// A kind of blinking: 5 or 6.
+/// A kind of blinking: slow (5) or rapid (6).
 #[derive(Clone, Copy, Debug, PartialEq, Eq)]
 pub enum Blink {
     Slow,
     Rapid,
 }
 
-/// The attributes of a character. `None` stands for the default of an optional attribute.
+/// The attributes of a character. If an attribute is optional, `None` is its default.
 #[derive(Clone, Copy, Debug, PartialEq, Eq)]
 pub struct Look {
     pub bold: bool,

@@ -63,7 +63,7 @@ abbrev pub AllClusters : List Layout → Type 0
 AllClusters kept = (pos : ℕ) → pos < length (text_of kept) → HasCluster kept pos
 
 module _ (rules : Rules) (kept : List Layout) (clusters : AllClusters kept) (caret : Caret) (line : Visual) (start : ℕ) (facts : IsLineOf kept caret.line line start) where
-  -- a line that was read at the caret's line is that line
+  -- a line that was read at the index of the caret's line is `line`
   same_line : (n : ℕ) (other : Visual) → slice_get (lines_in kept) n ≡ Some other → caret.line ≡ n → other ≡ line
   same_line n other read there = same_Some other line (sym read ∙ ap (slice_get (lines_in kept)) (sym there) ∙ facts.read)
 

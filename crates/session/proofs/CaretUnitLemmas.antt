@@ -89,12 +89,12 @@ module _ (line : Visual) where
 
 -- ---- how the characters of a level run follow each other
 
--- whether those of each run at an even level are next to each other from left to right
+-- whether the characters of each run at an even level are next to each other from left to right
 abbrev pub EvenAdjoins : Visual → Type 0
 EvenAdjoins line = (j k : ℕ) → AreInRun line j k → is_odd (get_or line.levels j 0) ≡ false
     → columns_left line (get_or line.ltov k 0) ≡ columns_left line (get_or line.ltov j 0) + columns_between line j k
 
--- whether those of each run at an odd level are next to each other from right to left
+-- whether the characters of each run at an odd level are next to each other from right to left
 abbrev pub OddAdjoins : Visual → Type 0
 OddAdjoins line = (j k : ℕ) → AreInRun line j k → is_odd (get_or line.levels j 0) ≡ true
     → columns_left line (get_or line.ltov k 0 + 1) + columns_between line j k ≡ columns_left line (get_or line.ltov j 0 + 1)
@@ -471,7 +471,7 @@ module _ (line : Visual) (ordered : IsOrdered line) (start : ℕ) (cluster : Clu
           let inside : j < length line.levels = inner j found.1 in
           omega (arith, found.3, left_rises line (get_or line.ltov j 0 + 1) (length line.vtol) (omega (arith, ordered.inverse.ltov_within j inside, ordered.vtol)))
 
-    -- the right edge of its rightmost character, or the end of its columns, is in the line
+    -- the column of the unit's trailing end is within the line
     pub trailing_within : EvenAdjoins line → (unit_of line start cluster k).trailing ≤ width_of line
     trailing_within adjoin =
         elim (cases_Bool (is_odd (level_at line k))) [

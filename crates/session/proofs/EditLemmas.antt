@@ -148,7 +148,7 @@ AreSums-splice kept new front back total total_2 f b rise total-is total_2-is =
 
 -- ---- the advances of the paragraphs
 
--- the advances of paragraphs are as many as their characters
+-- paragraphs have as many advances as characters
 pub listed_starts : (rules : Rules) (width : ℕ) (list : List ℕ) (pars : List (List ℕ)) (i : ℕ) → length list ≡ length (concat pars)
     → start_of (advance_lists (layouts_from rules width (Some list) pars)) i ≡ start_of pars i
 listed_starts rules width list [] zero each = refl
@@ -368,7 +368,7 @@ module _ (law : ParagraphsArePieces) (few : LinesAreFew) (engine : Engine) (widt
       | inr past ↦ ap length (get_or_past (advance_lists kept) i [] (omega (arith, past, list_number))) ∙ sym (ap length (get_or_past (pars_of kept) i [] (omega (arith, past))))
     ]
 
-  -- the advances of the two parts around the edited range are for their characters
+  -- each of the two parts around the edited range has one advance for each of its characters
   pub front_each : AreForEach (given_if is_measured (front_of (advance_lists kept) front pos)) (front_of (pars_of kept) front pos)
   front_each = given_each is_measured (front_of (advance_lists kept) front pos) (front_of (pars_of kept) front pos) (λ is.
       length-take (pos - front.chars) (get_or (advance_lists kept) front.index []) ∙ ap (min (pos - front.chars)) (each_size is front.index)

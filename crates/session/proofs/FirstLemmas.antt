@@ -167,7 +167,7 @@ module _ (test : ℕ → Bool) where
             ]
       ]
 
-  -- where the first number that passes is, as one past it
+  -- no number from `low` on passes before b - 1, the last number before b
   pub record EndsBy (low end b : ℕ) : Type 0 where
     pub above : low < b
     pub to : b ≤ end

@@ -1,4 +1,4 @@
--- What holds of each line of a text that is laid out: its place, its order and its clusters.
+-- What holds for each line of a text that is laid out: its place, its order and its clusters.
 use Rattle.std.proofs.Common.{◌≡◌, ℕ, ◌+◌, ◌-◌, ◌<◌, ◌≤◌, Bool, true, false, List, [], ◌∷◌, ◌++◌, length, map, get_or, sum_by, Option, None, Some, refl, sym, ap, subst, ◌∙◌, ◌⊎◌, inl, inr, arith}
 use Rattle.std.specs.List.{concat, slice_get, All}
 use Rattle.std.specs.Option.{option_map}
@@ -55,7 +55,7 @@ found_in before rest = record {
   visits = 0;
 }
 
--- a paragraph of a list, those before it and after it, and a number in it
+-- the paragraph that contains unit n of a text, the paragraphs before and after it, and the number of the unit in it
 record IsIn (size : Layout → ℕ) (kept : List Layout) (n : ℕ) : Type 0 where
   before : List Layout
   item : Layout

@@ -19,7 +19,7 @@ abbrev sum_below : (ℕ → ℕ) → ℕ → ℕ
 sum_below f zero = 0
 sum_below f (suc n) = sum_below f n + f n
 
--- a list contains each number below n: the index of each
+-- each number below n is at some index of a list
 abbrev HasEach : List ℕ → ℕ → Type 0
 HasEach xs n = (k : ℕ) → k < n → (i : ℕ) × (i < length xs) × (get_or xs i 0 ≡ k)
 

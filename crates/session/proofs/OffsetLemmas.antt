@@ -24,7 +24,7 @@ use Rattle.session.proofs.BorderLemmas.{chars_of, lines_of, front_is, item_read,
 use Rattle.session.proofs.PlaceLemmas.{text_append}
 use Rattle.session.proofs.ReadingLemmas.{same_none}
 
--- some number passes a test that 0 passes
+-- if 0 passes a test, there is a greatest number that passes
 greatest_some : (test : ℕ → Bool) (n : ℕ) → test 0 ≡ true → is_none (greatest test (suc n)) ≡ false
 greatest_some test zero e = ap is_none (cond-true (test 0) (Some 0) None e)
 greatest_some test (suc n) e = elim (cases_Bool (test (suc n))) [
@@ -214,7 +214,7 @@ module _ (encoding : Encoding) (kept : List Layout) (offset : ℕ) (found : Foun
           within = u.within;
         }
 
--- an offset inside the text is not `None`
+-- a position inside the text has an offset
 pub offset_there : (encoding : Encoding) (text : List ℕ) (pos : ℕ) → pos ≤ length text → None ≡ offset_of encoding text pos → ⊥
 offset_there encoding text pos within none = let wrong = none ∙ offset_within encoding text pos within in cc wrong
 

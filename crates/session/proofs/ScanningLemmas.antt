@@ -1,14 +1,14 @@
--- Scans for the first or the last number that passes a test: the number that a scan finds from the current one on is the one that is
--- looked for.
+-- Scans for the first or the last number of a range that passes a test. Among the numbers that remain, a scan finds the same number as in
+-- the whole range.
 use Rattle.std.proofs.Common.{◌≡◌, ℕ, zero, suc, ◌+◌, ◌-◌, ◌<◌, ◌≤◌, Bool, true, false, Some, None, if◌then◌else◌, ap, ◌∙◌, refl, sym, arith}
 use Rattle.bidi.specs.Brackets.{greatest}
 use Rattle.ucd.specs.Least.{least}
 
--- the scan for the first from `low` on and before `end` has come to k
+-- the scan for the first number that passes, from `low` up to `end`, has reached k
 abbrev pub ScansTo : (ℕ → Bool) → ℕ → ℕ → ℕ → Type 0
 ScansTo test low end k = least test low (end - low) ≡ least test k (end - k)
 
--- the scan for the last before `high` has come back to k
+-- the scan for the last number below `high` that passes has reached k
 abbrev pub ScansBack : (ℕ → Bool) → ℕ → ℕ → Type 0
 ScansBack test high k = greatest test high ≡ greatest test k
 

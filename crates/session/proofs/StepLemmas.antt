@@ -111,7 +111,7 @@ module _ (rules : Rules) (kept : List Layout) (clusters : AllClusters kept) (car
       step_leads direction =
           subst (Leads direction) (sym (step_from edge caret drawn refl direction)) (leads direction (caret_within_by rules kept clusters caret line start facts edge.side edge.pos drawn))
 
-      -- what a step back returns to
+      -- a step back from `next` leads to an edge at the caret's column
       abbrev Back : Direction → Edge → Type 0
       Back direction next = (again : Edge) × (step_at rules kept next direction ≡ Some again) × (to : Caret) × (edge_caret_at rules kept again ≡ Some to) × (to.column ≡ caret.column)
 

@@ -38,7 +38,7 @@ module _ (left lo ln right : List Visual) (damage : Damage) (s e : ℕ) (start :
   back-new : s + back ≤ length ln
   back-new = omega (arith, start.in_first, start.in_second, old-is, new-is)
 
-  -- the last lines still match if there are fewer of them
+  -- if the last e lines match, so do the last `back` lines, which are at most as many
   last : drop (length ln - back) ln ≡ drop (length lo - back) lo
   last =
       let a : length ln - e + (e - back) ≡ length ln - back = omega (arith, end.in_second, back-most) in

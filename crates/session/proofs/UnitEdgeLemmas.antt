@@ -33,7 +33,7 @@ pub record IsPlaced (kept : List Layout) (n start k : ℕ) : Type 0 where
   pub line : (place_in kept (start + k)).line ≡ n
   pub offset : (place_in kept (start + k)).offset ≡ k
 
--- what holds of line n of a text, which starts at `start`
+-- what holds for line n of a text, which starts at `start`
 pub record IsLineOf (kept : List Layout) (n : ℕ) (line : Visual) (start : ℕ) : Type 0 where
   pub read : slice_get (lines_in kept) n ≡ Some line
   pub ordered : IsOrdered line

@@ -17,7 +17,7 @@ utf8_few c = (len_utf8_bounds c).1
 pub utf16_few : AreFew len_utf16
 utf16_few c = elim (nat_lt c 0x1_0000) as (λ b. (if b then 1 else 2) ≤ 4) [ true ↦ omega arith | false ↦ omega arith ]
 
--- so the texts of paragraphs have at most four times as many units as characters
+-- the texts of paragraphs have at most four times as many units as characters
 module _ (size : ℕ → ℕ) (few : AreFew size) where
   few_units : (text : List ℕ) → sum_by size text ≤ 4 * length text
   few_units [] = omega arith

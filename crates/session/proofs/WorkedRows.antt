@@ -58,7 +58,7 @@ changed-of-three : (tables : Tables)
     → (changed (default_rules tables) 2 three_laid ≡ 3) × (changed (default_rules tables) 1 three_laid ≡ 8) × (changed (default_rules tables) 2 [] ≡ 0)
 changed-of-three tables = (refl, refl, refl)
 
--- their paragraphs start at 0, 3 and 6, on the lines 0, 1 and 3
+-- the three paragraphs start at 0, 3 and 6, on the lines 0, 1 and 3
 starts-of-three : (paragraph_starts three_laid ≡ 0 ∷ 3 ∷ 6 ∷ []) × (first_line_at three_laid 0 ≡ Some 0) × (first_line_at three_laid 1 ≡ Some 1)
     × (first_line_at three_laid 2 ≡ Some 3) × (first_line_at three_laid 3 ≡ None)
 starts-of-three = (refl, refl, refl, refl, refl)

@@ -19,7 +19,7 @@ AreBounded sums = (unit : Counted) → part sums unit < 2 ^ 64
 abbrev pub AreSizes : {P : Type 0} → Ghosts P → P → Sums → Type 0
 AreSizes G x sums = (unit : Counted) → part sums unit ≡ measure G unit x
 
--- whether these are two sums, added
+-- whether the last sums are the first two, added
 abbrev pub AreAdded : Sums → Sums → Sums → Type 0
 AreAdded a b sums = (unit : Counted) → part sums unit ≡ part a unit + part b unit
 

@@ -34,8 +34,7 @@ module _ {A : Type 0} where
   only (y ∷ []) x l e = ap (λ z. z ∷ []) (sym e)
   only (y ∷ z ∷ zs) x l e = absurd (omega arith)
 
-  -- the index of the exchanged item in the items of a node is that of an item before the node's own item, of
-  -- this item, or of one after it
+  -- the exchanged item among a node's items is before the node's own item, is that item itself, or is after it
   module _ (l r : List A) (x y : A) (i : ℕ) where
     pub swapped_before : i < length l → swapped (l ++ x ∷ r) i y ≡ swapped l i y ++ x ∷ r
     swapped_before h =

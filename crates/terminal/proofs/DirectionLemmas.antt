@@ -140,7 +140,7 @@ searched_none rules searched text s z p =
       passed = p (drop (searched.scanned + 1) (drop searched.start text));
     }
 
--- the text after the blocks that were searched decides
+-- the level of a text is that of the text after the blocks that were searched
 pub rest_level : (rules : Rules) (searched : Searched) (text : List ℕ) → HasSearched rules searched text → shown_level rules (drop searched.start text) ≡ shown_level rules text
 rest_level rules searched text h =
     ap (shown_level rules) (sym (append-nil (drop searched.start text))) ∙ sym (h.level []) ∙ ap (shown_level rules) (append-nil text)
@@ -186,7 +186,7 @@ known_early rules text level base few known b more =
     b ∙ ap base_by (sym (known (take m more))) ∙ ap (λ t. base_by (shown_level rules t)) (sym (take-append-add text more m))
     ∙ ap (λ k. base_by (shown_level rules (take k (text ++ more)))) count
 
--- if a text has as many characters as count, its direction is known whatever follows
+-- if a text has `FIRST_CHARACTERS` characters, its direction is the same whatever follows
 pub known_late : (rules : Rules) (text : List ℕ) (base : Base) → length text ≡ FIRST_CHARACTERS → base ≡ base_by (shown_level rules text)
     → (more : List ℕ) → base ≡ text_direction rules (text ++ more)
 known_late rules text base many b more =
@@ -199,7 +199,7 @@ known_cut rules text cut base c known more =
     let rest = drop FIRST_CHARACTERS text in
     known (rest ++ more) ∙ ap (text_direction rules) (sym (append_assoc cut rest more) ∙ ap (λ t. (t ++ rest) ++ more) c ∙ ap (λ t. t ++ more) (take-append-drop FIRST_CHARACTERS text))
 
--- a text with fewer characters than count is not cut
+-- a text with fewer than `FIRST_CHARACTERS` characters is not shortened
 pub few_cut : (text cut : List ℕ) → cut ≡ take FIRST_CHARACTERS text → length cut < FIRST_CHARACTERS → (cut ≡ text) × (length text < FIRST_CHARACTERS)
 few_cut text cut c few =
     let short : length text < FIRST_CHARACTERS = elim (cases_lt (length text) FIRST_CHARACTERS) [

@@ -62,7 +62,7 @@ replacement_char = refl
 after_replacement : (bytes : List ℕ) → chars (replacement_bytes ++ bytes) ≡ 0xFFFD ∷ chars bytes
 after_replacement bytes = chars-append replacement_bytes bytes replacement_utf8 ∙ ap (λ xs. xs ++ chars bytes) replacement_char
 
--- an invalid sequence is U+FFFD
+-- an invalid sequence is decoded as U+FFFD
 pub lossy_error : (x more : List ℕ) (n : ℕ) → utf8_valid_len x ≡ 0 → utf8_error_len x ≡ Some n → lossy (x ++ more) ≡ 0xFFFD ∷ lossy (drop n x ++ more)
 lossy_error x more n none e =
     let bounds = error_within x n e in
@@ -74,7 +74,7 @@ lossy_error x more n none e =
     ∙ ap₂ (λ v t. chars (take v (x ++ more) ++ (replacement_bytes ++ utf8_lossy t))) zero_is rest
     ∙ after_replacement (utf8_lossy (drop n x ++ more))
 
--- at the end of the bytes, an incomplete character is U+FFFD too
+-- at the end of the bytes, an incomplete character is decoded as U+FFFD too
 pub lossy_beginning : (x : List ℕ) → 0 < length x → utf8_valid_len x ≡ 0 → utf8_error_len x ≡ None → lossy x ≡ 0xFFFD ∷ []
 lossy_beginning x some none e =
     let len : utf8_invalid_len x ≡ length x = ap (λ (o : Option ℕ). unwrap_or o (length x)) e in
@@ -138,7 +138,7 @@ all_decoded bytes rest before after new text at error d r p e none =
       rest = subst IsBeginning next (record { none = none_after rest; fault = sym p.error_is ∙ none; few = omega (arith, few, length-drop v rest) });
     }
 
--- decoding the invalid sequence after it as U+FFFD preserves `IsDecoded`
+-- decoding the invalid sequence after the valid text as U+FFFD preserves `IsDecoded`
 pub decoded_error : (bytes rest before after new text last : List ℕ) (at n : ℕ) (error : Option ℕ) → IsDecoded bytes at before after → rest ≡ drop at bytes
     → IsValidPrefix rest text error → new ≡ after ++ chars text → error ≡ Some n → last ≡ new ++ 0xFFFD ∷ [] → IsDecoded bytes (at + length text + n) before last
 decoded_error bytes rest before after new text last at n error d r p e is added =
@@ -193,7 +193,7 @@ good_whole strict bytes e = cond-false (strict && is_bad bytes) (take (utf8_vali
 pub good_front : (strict : Bool) (bytes : List ℕ) → (strict && is_bad bytes) ≡ true → good_part strict bytes ≡ take (utf8_valid_len bytes) bytes
 good_front strict bytes e = cond-true (strict && is_bad bytes) (take (utf8_valid_len bytes) bytes) bytes e
 
--- what is decoded, if the form is strict, is as long as the valid text
+-- if the form is strict, the bytes that are decoded have the same valid length as all bytes
 pub good_len : (bytes : List ℕ) → utf8_valid_len (good_part true bytes) ≡ utf8_valid_len bytes
 good_len bytes =
     let v = utf8_valid_len bytes in

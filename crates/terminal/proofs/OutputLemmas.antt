@@ -110,7 +110,7 @@ module _ (rules : Rules) where
       some [] e least = absurd (omega (arith, least, ap length e))
       some (q ∷ qs) e least = have_ends (cut_by rules) parts (text ++ 0 ∷ []) q qs (cuts (0 ∷ []) ∙ ap (λ (ps : List (List ℕ)). parts ++ ps) (sym e))
 
--- The page at the end is that of the blocks before, and of the rest of the text.
+-- The page of an input is the page of the blocks that were sent, followed by that of the rest of the text.
 pub output_after : (rules : Rules) (form : Form) (is_last : Bool) (sent : List (List ℕ)) (front text whole rest : List ℕ) (pen : Pen)
     → ((more : List ℕ) → blocks (cut_by rules) (front ++ more) ≡ sent ++ blocks (cut_by rules) (text ++ more))
     → blocks (cut_by rules) whole ≡ sent ++ blocks (cut_by rules) rest → pen ≡ pen_after_blocks START sent

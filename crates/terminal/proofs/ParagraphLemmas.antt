@@ -1,4 +1,4 @@
--- Paragraphs of which the styles are known by numbers.
+-- Paragraphs whose characters have style numbers.
 use Rattle.std.proofs.Common.{◌≡◌, ℕ, ◌<◌, List, length, get_or, encode_utf8_all, Option, None, sym, subst, ap, ap₂, ◌∙◌}
 use Rattle.lines.specs.Layouts.{AreWithin, Layout, Rules, layout_of}
 use Rattle.lines.specs.declared.printing.print.Print.{Print}

@@ -1,4 +1,4 @@
--- How far the text after a CR was scanned, as more of it is scanned.
+-- Scanning the text after a CR, one part after another.
 use Rattle.std.proofs.Common.{◌≡◌, ℕ, ◌+◌, ◌<◌, ◌≤◌, ◌==◌, Bool, true, false, ◌&&◌, List, [], ◌∷◌, ◌++◌, length, take, drop, get_or, Some, None, refl, sym, subst, ap, ap₂, inl, inr, ◌∙◌, append_assoc, arith, drop-drop}
 use Rattle.std.proofs.lemmas.Bool.{cases_Bool, cases_lt, cond-true, cond-false, false≢true}
 use Rattle.std.proofs.lemmas.List.{append-nil, drop-append-le, drop_all, get_or_append_left, length-append, length-drop, take-append-drop, take-append-le, take_all}
@@ -116,7 +116,7 @@ module _ (old new : Passed) (text part : List ℕ) (h : HasPassed old text) (p :
         progress = q ∙ scanned_all more m ∙ ap (after_all Start) (sym whole);
       }
 
-  -- the progress shows whether the part is known then
+  -- after this scan, its state shows whether the end of the part is known
   pub scanned_knows : (more : List ℕ) → more ≡ drop old.scanned part → knows_sequence part ≡ is_known (after_all old.progress more)
   scanned_knows more m = sym (start_tells part) ∙ ap is_known (sym (scanned_all more m))
 

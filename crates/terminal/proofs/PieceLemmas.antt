@@ -15,7 +15,7 @@ use Rattle.terminal.specs.declared.form.Form.{Form}
 
 -- ---- the pieces of a text
 
--- more pieces than characters make no difference
+-- `first_pieces` has the same result for all numbers that are at least the number of characters
 enough : {A : Type 0} (m n : ℕ) (text : List A) → length text ≤ m → length text ≤ n → first_pieces m text ≡ first_pieces n text
 enough zero zero [] a b = refl
 enough zero (suc n) [] a b = refl

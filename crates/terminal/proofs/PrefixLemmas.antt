@@ -97,7 +97,7 @@ module _ (width : ℕ) (layout : Layout) (line : Visual) (one : length layout.li
   pub narrow_some : line.columns < width → Some line ≡ narrow_line width (visuals layout)
   narrow_some narrow = sym (of_line ∙ cond-true (nat_lt line.columns width) (Some line) None (lt-ltb line.columns width narrow))
 
--- the line that was found
+-- the only line of a layout, which is narrower than the width
 pub record IsOnly (width : ℕ) (f : ℕ × Line → Visual) (lines : List Line) (visual : Visual) : Type 0 where
   pub line : Line
   pub only : lines ≡ line ∷ []

@@ -92,7 +92,7 @@ end_some escapes started waiting some b =
     by_mode Text true = refl
     by_mode Text false = refl
 
--- the bytes that wait at the end are one U+FFFD
+-- at the end, the waiting bytes are decoded as one U+FFFD
 pub end_text : (escapes : Escapes) (started : Bool) (waiting : List ℕ) (n : ℕ) → length waiting ≡ n → IsBeginning waiting → text_after escapes started waiting ≡ last_characters n
 end_text escapes started [] n len b = end_none escapes started ∙ ap last_characters len
 end_text escapes started (x ∷ waiting) n len b =
@@ -608,7 +608,7 @@ stands_at_start rules form reader writer held w b t c passed p empty page n room
       waits = ap length nothing ∙ sym w;
     }
 
--- a step at the rules that the run began with
+-- a step by the current rules is a step by the rules with which the run began
 pub stepped_as : (rules now : Rules) (form : Form) (is_last : Bool) (reader_old writer_old reader writer reader_new writer_new : Device) (held held_new : Held) → now ≡ rules
     → Stands rules form reader_old writer_old reader writer held → (result : Result Bool Fault)
     → (Stands now form reader_old writer_old reader writer held → Steps now form is_last reader_old writer_old reader_new writer_new held_new result)

@@ -117,7 +117,7 @@ module _ (rules : Rules) (escapes : Escapes) (reader_old reader : Device) (searc
     failures_same : reader_new.failures ≡ reader_old.failures
     failures_same = r.read.gives.passes.failures ∙ s.failures
 
-    -- the number of bytes so far fits
+    -- the number of bytes read so far fits in 64 bits
     pub search_counted : decoder.decoded + (decoder.waiting + n) ≤ 2 ^ 64 - 1
     search_counted = omega (arith, ap (λ (d : Decoder). d.decoded) r.same, waiting_same, s.counts, s.read.1, r.read.gives.passes.passed, r.read.gives.passes.bounded)
 

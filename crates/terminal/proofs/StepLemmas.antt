@@ -63,7 +63,7 @@ module _ (rules : Rules) (form : Form) (is_last : Bool) (reader_old writer_old r
   decoded_same : decoder.decoded ≡ held.decoder.decoded
   decoded_same = ap (λ (d : Decoder). d.decoded) r.same
 
-  -- the number of bytes so far fits
+  -- the number of bytes read so far fits in 64 bits
   pub step_counted : decoder.decoded + (decoder.waiting + n) ≤ 2 ^ 64 - 1
   step_counted = omega (arith, decoded_same, waiting_same, s.counts, s.is_at.read.1, r.read.gives.passes.passed, r.read.gives.passes.bounded)
 

@@ -58,7 +58,7 @@ module _ (visual : Visual) (styles : List Style) (more : List (ℕ × Style)) wh
       ∙ ap (λ xs. old ++ xs) (append_assoc (between before style) cells (written_after style left) ∙ sym (written-one before style cells left some)
       ∙ ap (written_after before) (sym split)) ∙ h
 
-  -- at the end of the characters, what follows them is left
+  -- at the end of the characters, only what follows them remains to be written
   pub end_line : (chars vtol : List ℕ) (at : ℕ) (style : Style) (old all : List ℕ) → min (length chars) (length vtol) ≤ at
       → old ++ written_after style (styled_chars visual styles (drop at chars) (drop at vtol) ++ more) ≡ all → old ++ written_after style more ≡ all
   end_line chars vtol at style old all end h =

@@ -35,14 +35,14 @@ pub(crate) struct Searched {
 }
 
 impl Searched {
-    /// Nothing was searched yet.
+    /// Nothing has been searched yet.
     pub(crate) fn nothing() -> Searched
         ensures { (rules : Rules) (text : List ℕ) → HasSearched rules result text }
     {
         Searched::up_to(0)
     }
 
-    // Nothing of the block that begins at `start` was searched yet.
+    // Nothing of the block that begins at `start` has been searched yet.
     fn up_to(start: usize) -> Searched
         ensures start { result.start ≡ start }
         ensures scanned { result.scanned ≡ 0 }
@@ -123,7 +123,7 @@ fn shown_level(alloc: Global, engine: &mut Engine, text: &[char]) -> Result<Opti
 
 // Does the same as `shown_level` for a text that may continue. Considers only blocks that have ended. If they
 // show no strong character, returns how far the text has been searched by now. Looks for the ends of blocks
-// only in text that was not searched yet.
+// only in text that has not been searched yet.
 fn known_level(
     alloc: Global,
     engine: &mut Engine,

@@ -20,14 +20,14 @@ pub(crate) struct Passed {
 }
 
 impl Passed {
-    /// Nothing was scanned yet.
+    /// Nothing has been scanned yet.
     pub(crate) fn nothing() -> Passed
         ensures { (text : List ℕ) → HasPassed result text }
     {
         Passed::at(0)
     }
 
-    // Nothing of the part that begins at `start` was scanned yet.
+    // Nothing of the part that begins at `start` has been scanned yet.
     fn at(start: usize) -> Passed
         ensures start { result.start ≡ start }
         ensures scanned { result.scanned ≡ 0 }

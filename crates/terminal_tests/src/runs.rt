@@ -1,4 +1,4 @@
-//! Each row is an input, its output, and how the run ends.
+//! Tests of runs. Each row is an input, its output, and how the run ends.
 use crate::texts::{engine, form};
 use device::{FromRead, ToWrite};
 use lines::Engine;

@@ -1,4 +1,5 @@
-//! Each row is an input, its direction, and how much of the input is read to find it.
+//! Tests of the search for a direction. Each row is an input, its direction, and how much of the input is read
+//! to find it.
 use crate::texts::engine;
 use bidi::Base;
 use device::FromRead;

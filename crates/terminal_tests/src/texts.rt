@@ -1,4 +1,4 @@
-//! Each row is a text and its output.
+//! Tests of the lines of texts. Each row is a text and its output.
 use lines::{Engine, Options, PARAGRAPH_LIMIT};
 use std::alloc::Global;
 use std::test::Fail;

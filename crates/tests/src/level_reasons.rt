@@ -144,7 +144,7 @@ fn unpaired(case: BracketCase) -> BracketStep {
     }
 }
 
-// What N0 does with a mark whose type it sets with that of the bracket at an index.
+// What N0 does with a mark: it sets the mark's type together with that of the bracket at an index.
 fn mark_of(bracket: usize) -> BracketStep {
     BracketStep {
         case: None,
@@ -313,7 +313,8 @@ fn sixty_fourth_opening_bracket_is_past_the_limit(rt: HostRuntime) -> Result<(),
     expect_brackets(&rt, rt.alloc(), &text, 0, &expected)
 }
 
-// Two brackets before the 64 open ones form a pair, and the one after these matches the last of them.
+// The first two brackets form a pair, and the third has no match. Pairing stops at the last of the 64 opening
+// brackets after these, so the opening brackets and the closing bracket at the end are past the limit.
 #[test]
 fn only_waiting_brackets_are_past_the_limit(rt: HostRuntime) -> Result<(), Fail> {
     let mut text = ['('; 68];

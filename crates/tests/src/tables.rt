@@ -52,7 +52,7 @@ static ROWS: [Row; 16] = [
         NONE,
         128,
     ),
-    // A character with a mirror that is not a bracket, and a bracket without a mirror.
+    // A character that has a mirror but is not a bracket, and a bracket without a mirror.
     ('<', Bidi::ON, Line::XX, None, Some('>'), NONE, 336),
     (
         '\u{2329}',
@@ -92,7 +92,7 @@ static ROWS: [Row; 16] = [
         [false, false, true],
         337,
     ),
-    // A character that a line of emoji-data.txt names, but for another property.
+    // A character that emoji-data.txt lists only with other properties.
     ('\u{1F1E6}', Bidi::L, Line::RI, None, None, NONE, 312),
     // A range over many pages, and the characters next to it.
     ('\u{4DFF}', Bidi::L, Line::XX, None, None, NONE, 336),

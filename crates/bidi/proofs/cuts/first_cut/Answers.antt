@@ -17,7 +17,7 @@ answer_is is_cut text k before after answer within first second e =
     let at_second : after ≡ slice_index text (k + 1) = get_or_read text (k + 1) after within second 0 in
     rw (← at_first, ← at_second) (sym e)
 
--- the answer for the boundary after k is the answer for the boundary before k + 1
+-- the result for the boundary after k is the result for the boundary before k + 1
 answer_before : (is_cut : ℕ → ℕ → Bool) (text : List ℕ) (k : ℕ) (answer : Bool) → is_cut (slice_index text k) (slice_index text (k + 1)) ≡ answer
     → is_cut (slice_index text (k + 1 - 1)) (slice_index text (k + 1)) ≡ answer
 answer_before is_cut text k answer e =
