@@ -554,11 +554,12 @@ typedef struct hordguli_changed {
 } hordguli_changed;
 
 /* Stores in `*changed` which lines changed in the last successful call that edited the text, set the width or set
- * advances. These are the lines of the call's damage, which names whole paragraphs, less the longest run of unchanged
- * lines at the start and then the longest such run at the end. An unchanged line has the same characters, levels, maps,
- * columns, advances, base level and length as before, and is the first line of its paragraph if and only if it was
- * before. The padding, which depends on the width, is not compared: RTL lines move when the width changes, so draw all
- * of them then. After the session is opened, all lines count as changed. A failed call does not change the result.
+ * advances. These are the lines of the call's damage, which names whole paragraphs, without the longest run of
+ * unchanged lines at the start, and then without the longest such run at the end. An unchanged line has the same
+ * characters, levels, maps, columns, advances, base level and length as before, and is the first line of its paragraph
+ * if and only if it was before. The padding, which depends on the width, is not compared: RTL lines move when the
+ * width changes, so draw all of them then. After the session is opened, all lines count as changed. A failed call does
+ * not change the result.
  * Errors: NULL, OVERLAP, CLOSED.
  * Cost: O(1).
  * Since: 0.6. */
@@ -625,11 +626,13 @@ typedef struct hordguli_line_info {
 } hordguli_line_info;
 
 /* Stores information about a line in `*info`, and `info->shown` elements in each array. Each array has `capacity`
- * elements. NULL arrays are skipped, so with all arrays NULL any capacity is enough (see BUFFERS). Positions count from the
- * start of the line.
- *   characters characters in visual order, mirrored levels level of each character after L1, in logical order ltov
- *   visual position of each logical position vtol logical position of each visual position columns columns of the
- *   character at each visual position
+ * elements. NULL arrays are skipped, so with all arrays NULL any capacity is enough (see BUFFERS). Positions count from
+ * the start of the line.
+ *   characters  characters in visual order, mirrored
+ *   levels      level of each character after L1, in logical order
+ *   ltov        visual position of each logical position
+ *   vtol        logical position of each visual position
+ *   columns     columns of the character at each visual position
  *
  * On NO_ROOM, `*info` is set and the arrays are unchanged.
  * Errors: NULL, OVERLAP, CLOSED, OUT_OF_RANGE, NO_ROOM.

@@ -1,7 +1,7 @@
 """The Rust files that repeat the declarations of include/hordguli.h. tools/generate_declarations writes them.
 
 - rust/hordguli-sys/src/declarations.rs: the constants, structs and functions, with their comments.
-- rust/hordguli/src/numbers.rs: the lists of numbers that have a type of their own, such as bidi classes.
+- rust/hordguli/src/numbers.rs: the lists of numbers that have their own type, such as bidi classes.
 
 The files have the form that rustfmt gives them.
 """

@@ -494,7 +494,7 @@ class Session:
     ) -> list[str]:
         """Returns `count` lines from line `first` on, or all that follow, as strings.
 
-        `show` selects, as `Print` flags, the items of a line. Each item is a string of its own in the result. Numbers are decimal,
+        `show` selects, as `Print` flags, the items of a line. Each item is a separate string in the result. Numbers are decimal,
         with a space between them. By default, there is one item: the line in visual order, padded and mirrored.
 
         >>> with hordguli.Session("a \\u05d0\\u05d1") as text:

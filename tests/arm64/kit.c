@@ -125,7 +125,7 @@ static void heap(void) {
     HOLDS(blocks == 0);
 }
 
-/* Checks a function that copies a text, with buffers that are too short, just long enough, and longer. `asked` calls it. */
+/* Checks a function that copies a text, with buffers that are too short, just long enough, and longer. `asked` calls the function. */
 static void is_copied(ptrdiff_t (*asked)(const void *, uint8_t *, size_t), const void *which, const char *text) {
     enum { MOST = 300 };
     uint8_t buf[MOST];

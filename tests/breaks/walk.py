@@ -211,7 +211,8 @@ def indices(bits):
 class Questions:
     """What the rules say about a position, given the conditions that hold on the bases before it.
 
-    This is a mark if it is known. Otherwise it is a question: a tuple with the same for each letter of the next base, and for the end.
+    This is a mark if it is known. Otherwise it is a question: a tuple of what the rules then say, for each letter of the next base and for
+    the end.
     """
 
     def __init__(self, rows):
@@ -248,7 +249,8 @@ class Questions:
 
 
 class Automaton:
-    """The automaton that reads the bases before a position. Each of its classes has what the rules say before each letter."""
+    """The automaton that reads the bases before a position. For each of its classes, it has what the rules say before each
+    letter."""
 
     def __init__(self, version, rules):
         rows = self.rows = Rows(version, rules)
@@ -433,7 +435,8 @@ def is_wide_base(c):
 
 
 def answer(model, question, following):
-    """Returns the mark that answers a question, given the characters that follow. They may begin with marks of the base before."""
+    """Returns the mark that answers a question, given the characters that follow. They may begin with marks that belong to the
+    base before."""
     for c in following:
         if c.line_class not in ATTACHED:
             question = model.answers[question, symbol_of(c, model.version)]

@@ -43,15 +43,15 @@ static int is_same_line(const snapshot *then, size_t old, const snapshot *now, s
     return memcmp(&then->lines[old], &now->lines[new], sizeof then->lines[old]) == 0;
 }
 
-/* From `first` on, `old` lines became `new` lines, and all others are as they were. */
+/* From line `first` on, `old` lines became `new` lines, and all other lines are as they were. */
 static void lines_were_replaced(const snapshot *then, const snapshot *now, size_t first, size_t old, size_t new) {
     if (!HOLDS(first + old <= then->count && now->count == then->count - old + new)) return;
     HOLDS(memcmp(then->lines, now->lines, first * sizeof *then->lines) == 0);
     HOLDS(memcmp(then->lines + first + old, now->lines + first + new, (now->count - first - new) * sizeof *then->lines) == 0);
 }
 
-/* The changed lines are those of the damage, less the longest run of unchanged lines at its start and then the longest
- * such run at its end. */
+/* The changed lines are those of the damage, without the longest run of unchanged lines at its start, and then without
+ * the longest such run at its end. */
 static void changed_lines_are_right(hordguli_session *of, const snapshot *then, const snapshot *now, const hordguli_damage *damage) {
     hordguli_changed changed = {7, 7, 7};
     size_t before = 0, after = 0, first = damage->first_line, old = damage->old_lines, new = damage->new_lines;

@@ -1,4 +1,4 @@
-/* Shows a text in a terminal, page by page, with the colours of its escape sequences: pager FILE. Lines end between words, and
+/* Shows a text in a terminal, page by page, with the colors of its escape sequences: pager FILE. Lines end between words, and
  * right-to-left paragraphs start at the right. Control characters are not written. Keys: Space and b (a page forward and
  * back), j and k (a line), g and G (the start and the end), q. */
 #define _DEFAULT_SOURCE

@@ -22,7 +22,7 @@ NEUTRALS = "B S WS ON LRI RLI FSI PDI".split()
 STRONG = "L R AL".split()
 MOST_LEVELS = 125  # (BD2)
 MOST_OPENERS = 63  # (BD16)
-STEPS = "X W1 W2 W3 W4 W5 W6 W7 N0 N".split()  # what a type is listed after; N is N1 and N2
+STEPS = "X W1 W2 W3 W4 W5 W6 W7 N0 N".split()  # the steps after which a type is listed; N is N1 and N2
 
 
 class Reason(NamedTuple):

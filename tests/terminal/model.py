@@ -90,7 +90,7 @@ def settings(words, columns=None):
 
 CONTROL = r"\x00-\x1f\x7f-\x9f"
 KEPT_CONTROL = r"\x09-\x0d\x1c-\x1e\x85"
-INLINE = rf"[^{CONTROL}\u2028\u2029]"  # what strings and overstrikes have
+INLINE = rf"[^{CONTROL}\u2028\u2029]"  # a character that strings and overstrikes may have
 SEPARATOR = r"\n\r\x1c-\x1e\x85\u2029"
 MANDATORY = ("BK", "CR", "LF", "NL")
 
@@ -111,7 +111,8 @@ def picture(c):
 
 
 class Style(NamedTuple):
-    """How a character looks. A colour is `None` or a tuple of its kind and numbers, a link its parameters and its URI."""
+    """How a character looks. A color is `None` or a tuple of its kind and numbers, and a link is a tuple of its parameters
+    and its URI."""
 
     bold: bool = False
     faint: bool = False
@@ -163,7 +164,7 @@ def simple(style, n):
 
 
 def coloured(style, name, kind, numbers):
-    """Sets a colour, unless it is incomplete or above 255."""
+    """Sets a color, unless it is incomplete or above 255."""
     if len(numbers) != (1 if kind == 5 else 3) or max(numbers) > 255:
         return style
     return style._replace(**{name: ("256" if kind == 5 else "rgb", *numbers)})
@@ -406,7 +407,7 @@ def parts(text, styles, direction, its):
 
 
 def colour(value, first):
-    """Returns the parameters of a foreground or background colour."""
+    """Returns the parameters of a foreground or background color."""
     kind, *numbers = value
     if kind == "16":
         return str(first + numbers[0] if numbers[0] < 8 else first + 60 + numbers[0] - 8)

@@ -1,6 +1,6 @@
 """What a terminal shows: the command's output is written to a screen of pyte, and each cell compared with the model.
 
-pyte knows bold, italic, underlined, inverse and struck text, and the plain colours. The screen is one column wider than the lines.
+pyte knows bold, italic, underlined, inverse and struck text, and the plain colors. The screen is one column wider than the lines.
 """
 import os, shutil, subprocess, tempfile, unicodedata
 
@@ -11,7 +11,7 @@ ROWS = 500
 
 
 def cells_by_model(data, its):
-    """Returns the cells of each line: a character with its marks, five attributes and two colours."""
+    """Returns the cells of each line: a character with its marks, five attributes and two colors."""
     text, styles = model.styled(model.decoded(data), its.escapes)
     lines = []
     for line, _ in model.lines_of(text, styles, its, model.direction_of(model.decoded(data), its)):
@@ -81,7 +81,7 @@ def simple_text(random):
 
 
 def git_log(folder):
-    """Returns the coloured log of a new repository with Hebrew and English commits."""
+    """Returns the colored log of a new repository with Hebrew and English commits."""
     fixed = {"GIT_AUTHOR_DATE": "2026-01-02T03:04:05Z", "GIT_COMMITTER_DATE": "2026-01-02T03:04:05Z", "HOME": folder, "GIT_CONFIG_NOSYSTEM": "1", "LC_ALL": "C.UTF-8"}
     names = ["-c", "user.name=דוד Levi", "-c", "user.email=a@b"]
 

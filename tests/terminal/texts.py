@@ -1,6 +1,6 @@
 """Random texts for a terminal, and random options.
 
-A text is a list of pieces, which are bytes. Each piece is of one kind, such as a word, a colour or an unfinished sequence, and each text
+A text is a list of pieces, which are bytes. Each piece is of one kind, such as a word, a color or an unfinished sequence, and each text
 has pieces of a few kinds, so that the same kinds meet often.
 """
 HEBREW = "אבגדהושלםן"

@@ -784,11 +784,12 @@ extern "C" {
         damage: *mut hordguli_damage,
     ) -> hordguli_status;
     /// Stores in `*changed` which lines changed in the last successful call that edited the text, set the width or set
-    /// advances. These are the lines of the call's damage, which names whole paragraphs, less the longest run of unchanged
-    /// lines at the start and then the longest such run at the end. An unchanged line has the same characters, levels, maps,
-    /// columns, advances, base level and length as before, and is the first line of its paragraph if and only if it was
-    /// before. The padding, which depends on the width, is not compared: RTL lines move when the width changes, so draw all
-    /// of them then. After the session is opened, all lines count as changed. A failed call does not change the result.
+    /// advances. These are the lines of the call's damage, which names whole paragraphs, without the longest run of
+    /// unchanged lines at the start, and then without the longest such run at the end. An unchanged line has the same
+    /// characters, levels, maps, columns, advances, base level and length as before, and is the first line of its paragraph
+    /// if and only if it was before. The padding, which depends on the width, is not compared: RTL lines move when the
+    /// width changes, so draw all of them then. After the session is opened, all lines count as changed. A failed call does
+    /// not change the result.
     ///
     /// Errors: NULL, OVERLAP, CLOSED.
     ///
@@ -854,11 +855,13 @@ extern "C" {
         start: *mut usize,
     ) -> hordguli_status;
     /// Stores information about a line in `*info`, and `info->shown` elements in each array. Each array has `capacity`
-    /// elements. NULL arrays are skipped, so with all arrays NULL any capacity is enough (see BUFFERS). Positions count from the
-    /// start of the line.
-    ///   characters characters in visual order, mirrored levels level of each character after L1, in logical order ltov
-    ///   visual position of each logical position vtol logical position of each visual position columns columns of the
-    ///   character at each visual position
+    /// elements. NULL arrays are skipped, so with all arrays NULL any capacity is enough (see BUFFERS). Positions count from
+    /// the start of the line.
+    /// - `characters`: characters in visual order, mirrored
+    /// - `levels`: level of each character after L1, in logical order
+    /// - `ltov`: visual position of each logical position
+    /// - `vtol`: logical position of each visual position
+    /// - `columns`: columns of the character at each visual position
     ///
     /// On NO_ROOM, `*info` is set and the arrays are unchanged.
     ///

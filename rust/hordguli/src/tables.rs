@@ -11,7 +11,7 @@ use crate::Error;
 ///
 /// The library contains the tables of both versions. [`builtin`](Tables::builtin) opens the tables of 15.0.
 ///
-/// Tables can be sent to another thread, but not shared by threads, since a call needs them to itself:
+/// Tables can be sent to another thread, but not shared by threads, since a call needs exclusive access:
 ///
 /// ```compile_fail,E0277
 /// fn share<T: Sync>(_: T) {}
