@@ -1138,12 +1138,12 @@ hordguli_status hordguli_marks(hordguli_tables *tables, uint32_t options, const 
  * the original one, and no case. */
 typedef struct hordguli_reason {
     uint32_t opener;         /* innermost embedding, override or isolate around it that does not overflow */
-    uint32_t matching;       /* of an isolate initiator its PDI; of a PDI its initiator */
+    uint32_t matching;       /* the PDI of an isolate initiator, or the initiator of a PDI */
     uint32_t sequence;       /* first character of its isolating run sequence */
-    uint32_t partner;        /* of a paired bracket the other one; of a mark that N0 changes, the bracket before it */
-    uint32_t inside;         /* in the cases B, C1 and C2: the first strong character inside that decides */
-    uint32_t left;           /* of a neutral the character before its run; if X9 removes it, that with its level */
-    uint32_t right;          /* of a neutral the character after its run */
+    uint32_t partner;        /* the other bracket of a pair, or the bracket before a mark that N0 changes */
+    uint32_t inside;         /* in the cases B, C1 and C2, the first strong character inside the pair that decides */
+    uint32_t left;           /* the character before a run of neutrals; for one that X9 removes, that with its level */
+    uint32_t right;          /* the character after a run of neutrals */
     uint8_t class_after[11]; /* HORDGULI_BIDI_CLASS_..: original, after X8, W1 to W7, N0 and N2 */
     uint8_t override_class;  /* direction of the override that it is directly in, L or R */
     uint8_t embedding_level; /* after X8 */

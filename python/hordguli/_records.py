@@ -375,10 +375,10 @@ class Character(NamedTuple):
 class Reason(NamedTuple):
     """How the algorithm arrives at the level of a character (UAX #9). What does not exist is `None`.
 
-    `opener`: the innermost embedding, override or isolate around it that does not overflow. `matching`: of an isolate initiator its PDI, of a PDI
-    its initiator. `sequence`: the first character of its isolating run sequence. `partner`: of a paired bracket the other one, of a
-    mark that N0 changes the bracket before it. `inside`: the strong character inside the pair that decides.
-    `left`, `right`: of a neutral, the characters before and after its run; for a character that X9 removes, `left` is the one whose
+    `opener`: the innermost embedding, override or isolate around it that does not overflow. `matching`: the PDI of an isolate
+    initiator, or the initiator of a PDI. `sequence`: the first character of its isolating run sequence. `partner`: the other bracket of
+    a pair, or the bracket before a mark that N0 changes. `inside`: the strong character inside the pair that decides.
+    `left`, `right`: the characters before and after a run of neutrals; for a character that X9 removes, `left` is the one whose
     level it has. `class_after`: its bidi class, then the class after X8, W1 to W7, N0 and N2.
     `override_class`: `"L"` or `"R"` directly in an override. `embedding_level`: after X8. `level`: as `levels` returns it.
     `sos`, `eos`: the directions of the start and the end of the sequence. `neutral`: the rule that decides, if the type after N0 is

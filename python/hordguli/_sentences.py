@@ -168,7 +168,7 @@ def _neutral_sentence(reasons: Sequence[Reason], reason: Reason, rule: NeutralRu
 
 # ---- Break marks ----
 
-# What a class is called. A final `?` stands for a character that `_noun` looks at.
+# The name of each class. A final `?` stands for a character that `_noun` looks at.
 _NOUNS = {
     "AL": "letter?", "HL": "Hebrew letter", "NU": "digit", "OP": "opening bracket?", "CP": "closing bracket?", "CL": "closing punctuation mark",
     "EX": "exclamation or question mark", "IS": "numeric separator", "SY": "slash", "QU": "quotation mark", "GL": "non-breaking character",

@@ -286,8 +286,8 @@ fn stands_inside(
     }
 }
 
-// Returns the direction of a pair. `has_same` says whether a strong type of the embedding direction is inside
-// the pair. `has_other` says whether one of the other direction is.
+// Returns the direction of a pair. `has_same` says whether the pair contains a strong type of the embedding
+// direction, and `has_other` whether it contains one of the other direction.
 fn pair_direction(
     types: &[BidiClass],
     place: usize,

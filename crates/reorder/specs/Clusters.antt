@@ -27,6 +27,6 @@ module _ (ends : List Bool) (levels : List ℕ) where
     pub joined : (k : ℕ) → 0 < k → k ≤ n → is_joined (first + k) ≡ true
     pub whole : is_joined (first + n + 1) ≡ false
 
-  -- a character that has no neighbor of its cluster at its level, or that is at an even level
+  -- a character that has no neighbour of its cluster at its level, or that is at an even level
   abbrev pub IsSingle : ℕ → Type 0
   IsSingle place = (is_odd (slice_index levels place) ≡ false) ⊎ ((is_joined place ≡ false) × (is_joined (suc place) ≡ false))

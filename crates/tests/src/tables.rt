@@ -467,8 +467,8 @@ fn names_pictograph(alloc: Global, lines: &[u8]) -> Result<bool, TableFault> {
     Ok(tables.is_future_pictograph('\u{A9}'))
 }
 
-// Lines of another property name no characters, so they may be repeated. Lines of Extended_Pictographic may
-// not.
+// Lines of another property name no characters, so they may be repeated. Lines of Extended_Pictographic must
+// not be repeated.
 #[test]
 fn only_extended_pictographic_is_refused_when_repeated(rt: HostRuntime) -> Result<(), Fail> {
     let lines = b"00A9;Emoji\n00A9;Emoji\n00A9;Extended_Pictographic";

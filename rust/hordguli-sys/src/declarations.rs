@@ -419,17 +419,17 @@ pub struct hordguli_script_run {
 pub struct hordguli_reason {
     /// innermost embedding, override or isolate around it that does not overflow
     pub opener: u32,
-    /// of an isolate initiator its PDI; of a PDI its initiator
+    /// the PDI of an isolate initiator, or the initiator of a PDI
     pub matching: u32,
     /// first character of its isolating run sequence
     pub sequence: u32,
-    /// of a paired bracket the other one; of a mark that N0 changes, the bracket before it
+    /// the other bracket of a pair, or the bracket before a mark that N0 changes
     pub partner: u32,
-    /// in the cases B, C1 and C2: the first strong character inside that decides
+    /// in the cases B, C1 and C2, the first strong character inside the pair that decides
     pub inside: u32,
-    /// of a neutral the character before its run; if X9 removes it, that with its level
+    /// the character before a run of neutrals; for one that X9 removes, that with its level
     pub left: u32,
-    /// of a neutral the character after its run
+    /// the character after a run of neutrals
     pub right: u32,
     /// HORDGULI_BIDI_CLASS_..: original, after X8, W1 to W7, N0 and N2
     pub class_after: [u8; 11],
