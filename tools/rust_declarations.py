@@ -34,7 +34,7 @@ NUMBERS = {
 
 
 def fail(what):
-    sys.exit(f"generate_declarations: no type of Rust for {what}")
+    sys.exit(f"generate_declarations: no Rust type for {what}")
 
 
 def named(kind):

@@ -256,8 +256,8 @@ fn resolve_brackets(
 }
 
 // Returns whether a strong type of a direction is inside a pair. Moves `next` to the first index inside the
-// pair that had such a type before N0. If there is none, moves `next` to the closing bracket or leaves it
-// beyond that.
+// pair that had such a type before N0. If there is none, moves `next` to the closing bracket, or leaves it
+// past that bracket.
 fn stands_inside(
     types: &[BidiClass],
     before: &[BidiClass],

@@ -38,7 +38,7 @@ chars-push bytes c utf8 is =
     chars-append bytes (encode_utf8 c) utf8 ∙ ap (λ t. chars bytes ++ t) one
 
 module _ (text : List ℕ) (n d : ℕ) (within : n < length text) where
-  -- if the next character or escape is valid, its character is decoded, and decoding goes on after it
+  -- if the next character or escape is valid, its character is decoded, and decoding continues after it
   pub next_written : (front : List ℕ) (c len : ℕ) → written (get_or text n d) (drop (n + 1) text) ≡ Some (c, len) → 0 < len
       → option_map (λ cs. front ++ cs) (unescaped (drop n text)) ≡ option_map (λ cs. (front ++ c ∷ []) ++ cs) (unescaped (drop (n + len) text))
   next_written front c len is some =

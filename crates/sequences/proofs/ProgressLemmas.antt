@@ -173,7 +173,7 @@ closing_tells : (text : List ℕ) → tells AfterString text ≡ nat_lt 0 (lengt
 closing_tells [] = refl
 closing_tells (c ∷ text) = known_tells text ∙ sym (some_less (length text))
 
--- a string of which n characters came before, with m more of them
+-- `knows_string` for a string of which n characters came before the text, and m more begin the text
 abbrev short_known : ℕ → List ℕ → Bool
 short_known m text = nat_lt (m + (if slice_index text m == 0x1B then 1 else 0)) (length text)
 

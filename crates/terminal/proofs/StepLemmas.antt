@@ -28,7 +28,7 @@ use Rattle.terminal.specs.declared.output.Output.{Output}
 use Rattle.terminal.proofs.LossyLemmas.{good_front, good_len, good_whole}
 use Rattle.terminal.proofs.RunLemmas.{at_new, ends_bad, ends_long, ends_memory, ends_write, fed_read, finish_bad, finish_long, finish_memory, finish_ok, finish_stopped, finish_stopped_long, same_bad}
 
--- ---- why a run goes on or ends after a chunk
+-- ---- why a run continues or ends after a chunk
 none_is : (is_long stops : Bool) (n : ℕ) → None ≡ fault_after is_long stops n → (is_long ≡ false) × (stops ≡ false)
 none_is true stops n e = absurd cc
 none_is false true n e = absurd cc

@@ -34,7 +34,7 @@ kept embedding sos explicit old current before pairs i a b m nested item resolve
     unchanged (closers_by pairs (length old)) old current a m now.changed nested size (omega arith) (omega arith) other above (omega arith)
     ∙ ap (λ types. class_at types m) (sym same)
 
--- the pass goes on from a bracket to the next one, after it has set the pair if there is one
+-- the pass continues from a bracket to the next one, after it has set the pair if there is one
 module _ (embedding sos : BidiClass) (explicit old current : List BidiClass) (pairs : List BracketPair) (i a b : ℕ) (sizes : length explicit ≡ length old)
     (item : IsItem pairs (length old) i a b)
     (resolved : Resolved embedding sos explicit (closers_by pairs (length old)) old current (opener_or pairs i (length old))) where
