@@ -3,7 +3,7 @@
 
     python3 examples/subtitles.py WIDTH FONT... < IN.srt > OUT.srt
 
-A player finds the direction of each line by itself. So a line that would get another direction than its paragraph begins with a mark,
+A player finds the direction of each line separately. So a line that would get another direction than its paragraph begins with a mark,
 U+200E (left-to-right) or U+200F (right-to-left). Needs what hordguli.harfbuzz needs.
 """
 import re

@@ -238,7 +238,7 @@ def break_sentence(text: str, reasons: Sequence[BreakReason], at: int) -> str:
 
 
 def _noun(line_class: str, character: str) -> str:
-    """Returns what a character of a class is called."""
+    """Returns the name of a character of a class."""
     noun = _NOUNS.get(line_class, "character")
     if noun == "letter?":
         category = unicodedata.category(character)[0]

@@ -190,7 +190,7 @@ pub extern "C" fn hordguli_core_cluster_at(
     with_object!(session, alloc, object, find_cluster(&object, pos, cluster))
 }
 
-/// A word (`hordguli_word` in C). `kind` is 1 if it has a letter or a digit, else 0.
+/// A word (`hordguli_word` in C). `kind` is 1 if it has an alphabetic or numeric character, else 0.
 #[repr(C)]
 #[derive(Clone, Copy)]
 pub struct WordOut {

@@ -126,8 +126,8 @@ pub fn cluster_answer<S: ParagraphStore<Kept>>(
     }
 }
 
-/// Returns the reply to `word POS`: where the word of a character starts and ends, and whether it has a
-/// letter.
+/// Returns the reply to `word POS`: where the word of a character starts and ends, and whether it has an
+/// alphabetic or numeric character.
 pub fn word_answer<S: ParagraphStore<Kept>>(
     session: &Session<S>,
     pos: usize,

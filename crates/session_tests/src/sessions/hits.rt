@@ -181,7 +181,8 @@ fn is_cluster<S: ParagraphStore<Kept>>(
     }
 }
 
-// A text and a position; the start and the end of the word there, and whether it has a letter or a digit.
+// A text and a position; the start and the end of the word there, and whether it has an alphabetic or
+// numeric character.
 type WordRow<'a> = (&'a str, usize, Option<(usize, usize, bool)>);
 
 static WORDS: [WordRow<'_>; 8] = [
