@@ -1,6 +1,7 @@
 pub mod Bases
 pub mod Classes
 pub mod Doubling
+pub mod LineRules
 pub mod Marks
 pub mod Numbers
 pub mod Passes

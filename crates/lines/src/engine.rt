@@ -4,7 +4,9 @@ ghost use Rattle.std.specs.Prelude.{IfOk, IfErr, IsErrOf, IsTrue, OnErr, OnOk};
 ghost use Rattle.std.specs.Prelude.{if◌then◌else◌};
 ghost use Rattle.std.specs.Str.{chars};
 ghost use Rattle.device.specs.Device.{StoppedAt, Wrote};
+ghost use Rattle.bidi.specs.LevelReasons.{level_reasons_of, levels_in};
 ghost use Rattle.bidi.specs.Levels.{levels_of};
+ghost use Rattle.breaks.specs.Reasons.{reasons_of};
 ghost use Rattle.lines.specs.Bytes.{direction_line};
 ghost use Rattle.lines.specs.Layouts.{AreWithin, base_of};
 ghost use Rattle.lines.specs.Buffers.{held_lines, AreSound};
@@ -25,8 +27,10 @@ use crate::printing::writing::Form;
 use crate::reflow::ReflowScratch;
 use crate::separators::ends_line;
 use crate::workspace::{Workspace, ready};
-use bidi::{base_level, base_level_in_text, first_cut, first_cut_in_text, is_cut};
-use breaks::{Mark, marks_are_as_many, paragraphs_end_at_must};
+use bidi::{
+    LevelReason, base_level, base_level_in_text, first_cut, first_cut_in_text, is_cut, level_reasons,
+};
+use breaks::{Mark, Reason, marks_are_as_many, paragraphs_end_at_must, reasons};
 use device::Sink;
 use std::alloc::{AllocError, Global};
 use std::fmt;
@@ -42,7 +46,7 @@ pub const PARAGRAPH_LIMIT: usize = 1_048_576;
 const _: () = prove!(PARAGRAPH_LIMIT == 1_048_576);
 
 /// Lays out paragraphs using its tables and options, and counts the work. The engine never lends its tables
-/// to a caller, so all work done with them is counted.
+/// to a caller, so all layout done with them is counted. What `level_reasons` and `break_reasons` do is not.
 pub struct Engine {
     tables: Tables,
     options: Options,
@@ -580,6 +584,38 @@ impl Engine {
     {
         self.counts.analysed.raise(text.len());
         base_level(&self.tables, text, self.options.base)
+    }
+
+    /// Returns how the algorithm arrives at the level of each character of one paragraph (UAX #9, X1 to I2).
+    /// The levels are those of `lay_out`. Counts nothing. Needs time and memory proportional to the length of
+    /// the text.
+    pub fn level_reasons(
+        &self,
+        alloc: Global,
+        text: &[char],
+    ) -> Result<Vec<LevelReason>, AllocError>
+        ensures reasons { IfOk result (λ list. list.items ≡ level_reasons_of (rules_of self.now).tables
+            text.now (rules_of self.now).options.base) }
+        ensures levels { IfOk result (λ list. (width : ℕ) → levels_in list.items
+            ≡ (layout_of (rules_of self.now) width text.now).levels) }
+        ensures len { IfOk result (λ list. length list.items ≡ length text.now) }
+        ensures memory { OnErr result (0 < length text.now) }
+    {
+        level_reasons(alloc, &self.tables, text, self.options.base)
+    }
+
+    /// Returns the rule that decides the break mark after each character of one paragraph (UAX #14), and what
+    /// that rule read. The marks are those of `lay_out`. Counts nothing. Needs time and memory proportional
+    /// to the length of the text.
+    pub fn break_reasons(&self, alloc: Global, text: &[char]) -> Result<Vec<Reason>, AllocError>
+        ensures reasons { IfOk result (λ list. list.items ≡ reasons_of (rules_of self.now).tables
+            (rules_of self.now).options.whole_numbers text.now) }
+        ensures marks { IfOk result (λ list. (width : ℕ) → map (λ reason. reason.mark) list.items
+            ≡ (layout_of (rules_of self.now) width text.now).marks) }
+        ensures len { IfOk result (λ list. length list.items ≡ length text.now) }
+        ensures memory { OnErr result (0 < length text.now) }
+    {
+        reasons(alloc, &self.tables, text, self.options.whole_numbers)
     }
 
     // Implements `find_base` for UTF-8 text.

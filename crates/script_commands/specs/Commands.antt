@@ -178,7 +178,8 @@ abbrev pub by_word : Option (List ℕ) → (List ℕ → Option Query) → Optio
 by_word (Some rest) query other = query rest
 by_word None query other = other
 
--- `edge POS SIDE`, `step POS SIDE DIRECTION`, `at LINE COLUMN`, `ends LINE`, `spans LINE FROM TO`, `runs LINE` and `clusters LINE`
+-- `edge POS SIDE`, `step POS SIDE DIRECTION`, `at LINE COLUMN`, `ends LINE`, `spans LINE FROM TO`, `runs LINE`,
+-- `clusters LINE` and `why POS`
 unfoldable pub edge_query_in : List ℕ → Option Query
 edge_query_in line =
     by_word (stripped (codes "edge ") line) (λ rest. option_map (λ edge. ask.Edge edge.0 edge.1) (edge_in (parted rest)))
@@ -187,7 +188,8 @@ edge_query_in line =
     (by_word (stripped (codes "ends ") line) (with_one ask.Ends)
     (by_word (stripped (codes "spans ") line) (λ rest. option_map (λ n. ask.Spans n.0 (n.1).0 (n.1).1) (three_in (parted rest)))
     (by_word (stripped (codes "runs ") line) (with_one ask.Runs)
-    (by_word (stripped (codes "clusters ") line) (with_one ask.Clusters) None))))))
+    (by_word (stripped (codes "clusters ") line) (with_one ask.Clusters)
+    (by_word (stripped (codes "why ") line) (with_one ask.Why) None)))))))
 
 -- `byte POS`, `utf16 POS`, `frombyte BYTE` and `fromutf16 UNIT`
 unfoldable pub offset_query_in : List ℕ → Option Query

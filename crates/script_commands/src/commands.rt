@@ -58,6 +58,8 @@ pub enum Query {
     Runs(usize),
     /// The ends of the grapheme clusters of a line.
     Clusters(usize),
+    /// How the algorithms arrive at the level and the break mark of the character at a position.
+    Why(usize),
 }
 
 /// A command, which is one line of a script.
@@ -118,6 +120,8 @@ const SPANS: [char; 6] = ['s', 'p', 'a', 'n', 's', ' '];
 const RUNS: [char; 5] = ['r', 'u', 'n', 's', ' '];
 
 const CLUSTERS: [char; 9] = ['c', 'l', 'u', 's', 't', 'e', 'r', 's', ' '];
+
+const WHY: [char; 4] = ['w', 'h', 'y', ' '];
 
 const BEFORE: [char; 6] = ['b', 'e', 'f', 'o', 'r', 'e'];
 
@@ -232,7 +236,10 @@ fn parse_edge_query(line: &[char]) -> Option<Query>
     if let Some(rest) = after(&RUNS, line) {
         return Some(Query::Runs(number(rest)?));
     }
-    Some(Query::Clusters(number(after(&CLUSTERS, line)?)?))
+    if let Some(rest) = after(&CLUSTERS, line) {
+        return Some(Query::Clusters(number(rest)?));
+    }
+    Some(Query::Why(number(after(&WHY, line)?)?))
 }
 
 // Parses two numbers with a space between them.

@@ -14,6 +14,7 @@ pub mod Offsets
 pub mod Places
 pub mod Printing
 pub mod Reading
+pub mod Reasons
 pub mod Runs
 pub mod Scans
 pub mod Sessions

@@ -38,6 +38,7 @@ mod opening;
 mod places;
 mod printing;
 mod reading;
+mod reasons;
 mod refusals;
 mod replace;
 mod room;
@@ -60,6 +61,7 @@ pub use laws::{
 };
 pub use places::Place;
 pub use printing::RangeFault;
+pub use reasons::CharReasons;
 pub use refusals::opening_refusal;
 pub use session::Session;
 pub use words::Word;

@@ -20,6 +20,7 @@ ghost use Rattle.session.specs.Offsets.{length_in, offset_of, position_of};
 ghost use Rattle.session.specs.Places.{first_line_at, is_closed, line_starts, paragraph_starts, place_at};
 ghost use Rattle.session.specs.Printing.{lines_page, HasLines, PrintsNot, WritesNot};
 ghost use Rattle.session.specs.Reading.{text_part, utf8_len, utf8_part};
+ghost use Rattle.session.specs.Reasons.{reasons_at};
 ghost use Rattle.session.specs.Runs.{StopsAt, WorksAtMost};
 ghost use Rattle.session.specs.Sessions.{cuts_at, held_at, page_at, text_at, IsWholeLayout};
 ghost use Rattle.lines.specs.Layouts.{cut_by};
@@ -52,6 +53,7 @@ use crate::places::{
 };
 use crate::printing::{RangeFault, write_lines};
 use crate::reading::{text_part, utf8_len, write_text};
+use crate::reasons::{CharReasons, reasons_of};
 use crate::replace::replace;
 use crate::width::set_width;
 use crate::words::{Word, word_of};
@@ -383,6 +385,29 @@ impl<S: ParagraphStore<Kept>> Session<S> {
         paragraphs_are_pieces();
         Laid::lines_begin_in_order();
         word_of(&self.store, self.alloc, pos)
+    }
+
+    /// Returns how the algorithms arrive at the level of the character at a position and at the break mark
+    /// after it. Returns `None` past the last character. The tables' Unicode version and the session's options
+    /// decide the rules. A `level` before L1 can differ from that of the line.
+    ///
+    /// Needs time and memory proportional to the length of the paragraph: some 500 bytes for each character.
+    /// The work counters stay.
+    pub fn reasons(&self, pos: usize) -> Result<Option<CharReasons>, AllocError>
+        ensures ok { IfOk result (λ reasons. reasons
+            ≡ reasons_at (rules_of self.now.engine) self.now.kept pos) }
+        ensures none { IfOk result (λ reasons. is_none reasons ≡ nat_le (length (text_at self.now)) pos) }
+        ensures memory { OnErr result (pos < length (text_at self.now)) }
+    {
+        // By this theorem, no paragraph is empty.
+        paragraphs_are_pieces();
+        Laid::lines_begin_in_order();
+        reasons_of(&self.store, &self.engine, self.alloc, pos)
+    }
+
+    /// Returns the session's allocator.
+    pub fn allocator(&self) -> Global {
+        self.alloc
     }
 
     /// Of the `count` characters starting at `pos`, returns those in the same paragraph as the first one.

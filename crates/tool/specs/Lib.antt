@@ -1,6 +1,7 @@
 pub mod Program
 pub mod Queries
 pub mod Reading
+pub mod Reasons
 pub mod ScriptEnds
 pub mod ScriptRun
 pub mod Scripts

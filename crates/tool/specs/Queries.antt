@@ -22,6 +22,7 @@ use Rattle.session.specs.Kept.{lines_in, text_of}
 use Rattle.session.specs.Offsets.{offset_of, position_of}
 use Rattle.session.specs.Places.{line_starts}
 use Rattle.session.specs.Reading.{utf8_part}
+use Rattle.session.specs.Reasons.{reasons_at}
 use Rattle.session.specs.Words.{word_at}
 use Rattle.session.specs.declared.carets.Caret.{Caret}
 use Rattle.session.specs.declared.edges.Direction.{Direction}
@@ -32,11 +33,13 @@ use Rattle.session.specs.declared.edges.Side.{Side}
 use Rattle.session.specs.declared.edges.Side.TheVariants.{Before, After}
 use Rattle.session.specs.declared.hits.Hit.{Hit}
 use Rattle.session.specs.declared.offsets.Encoding.{Encoding}
+use Rattle.session.specs.declared.reasons.CharReasons.{CharReasons}
 use Rattle.session.specs.declared.offsets.Encoding.TheVariants.{Utf16, Utf8}
 use Rattle.text_run.specs.declared.faults.RunFault.{RunFault}
 use Rattle.text_run.specs.declared.faults.RunFault.TheVariants as f
 use Rattle.script_commands.specs.declared.commands.Query.{Query}
 use Rattle.script_commands.specs.declared.commands.Query.TheVariants as ask
+use Rattle.tool.specs.Reasons.{reasons_text}
 
 -- the numbers as text, with a space before each
 abbrev pub listed : List ℕ → List ℕ
@@ -169,7 +172,15 @@ module _ (print : Print) (width : ℕ) (kept : List Layout) where
       if nat_lt (length (lines_in kept)) (first + count) then out_of_range
       else told (count ∷ []) ++ flat_map (line_bytes width print) (slice_range (lines_in kept) first (first + count))
 
+-- the reply to `why`
+abbrev pub why_by : Option CharReasons → List ℕ
+why_by (Some reasons) = reasons_text reasons
+why_by None = out_of_range
+
 module _ (kept : List Layout) where
+  abbrev pub why_text : Rules → ℕ → List ℕ
+  why_text rules pos = why_by (reasons_at rules kept pos)
+
   abbrev pub cluster_text : ℕ → List ℕ
   cluster_text pos = told_of (option_map (λ cluster. cluster.start ∷ cluster.end ∷ []) (cluster_at kept pos))
 
@@ -244,8 +255,9 @@ query_text rules print width kept (ask.Ends n) = ends_text kept rules n
 query_text rules print width kept (ask.Spans n start end) = spans_text print width kept n start end
 query_text rules print width kept (ask.Runs n) = runs_text kept n
 query_text rules print width kept (ask.Clusters n) = clusters_text kept n
+query_text rules print width kept (ask.Why pos) = why_text kept rules pos
 
--- Whether a query may allocate. `cluster` and `word` may allocate if the character exists, `edge` if the edge belongs
+-- Whether a query may allocate. `cluster`, `word` and `why` may allocate if the character exists, `edge` if the edge belongs
 -- to a character, `step` if the text has the edge and is not empty, and `at` and `clusters` if the line exists.
 abbrev pub AsksMemory : List Layout → Query → Type 0
 AsksMemory kept (ask.Cluster pos) = pos < length (text_of kept)
@@ -255,6 +267,7 @@ AsksMemory kept (ask.Step pos is_after is_right) =
     (is_edge_in (length (text_of kept)) (edge_of pos is_after) ≡ true) × (0 < length (text_of kept))
 AsksMemory kept (ask.At n column) = n < length (lines_in kept)
 AsksMemory kept (ask.Clusters n) = n < length (lines_in kept)
+AsksMemory kept (ask.Why pos) = pos < length (text_of kept)
 AsksMemory kept query = ⊥
 
 -- a reply was not written completely: a write failed, or an allocation failed and nothing was written

@@ -15,6 +15,7 @@ mod answers;
 mod listings;
 mod program;
 mod queries;
+mod reasons;
 mod script;
 mod start;
 

@@ -1,14 +1,16 @@
 //! The queries that a script makes about the current text, and the replies to them.
 ghost use Rattle.std.specs.Prelude.{◌≡◌, false, ◌^◌, ◌-◌, ◌<◌, ◌≤◌, IfOk, IfErr, OnErr, length, slice_get};
-ghost use Rattle.std.specs.Prelude.{slice_index, true, IfSome};
+ghost use Rattle.std.specs.Prelude.{option_map, slice_index, true, IfSome};
 ghost use Rattle.lines.specs.Engine.{rules_of};
 ghost use Rattle.reorder.specs.Order.{is_odd};
 ghost use Rattle.lines.specs.Writing.{PassedOn};
 ghost use Rattle.session.specs.Edges.{edge_caret_at, is_edge_in, HasCharacter};
 ghost use Rattle.session.specs.Kept.{lines_in, text_of};
+ghost use Rattle.session.specs.Reasons.{reasons_at};
+ghost use Rattle.tool.specs.Reasons.{reasons_text};
 ghost use Rattle.tool.specs.Queries.{at_text, caret_text, clusters_text, edge_caret_text};
 ghost use Rattle.tool.specs.Queries.{ends_text, hit_text, lines_text, part_text, query_text, runs_text};
-ghost use Rattle.tool.specs.Queries.{size_text, spans_text, step_text, told};
+ghost use Rattle.tool.specs.Queries.{size_text, spans_text, step_text, told, why_text};
 ghost use Rattle.tool.specs.Queries.{caret_numbers, direction_of, edge_of, empty_left, is_odd_at, left_on};
 ghost use Rattle.tool.specs.Queries.{screen_hit, screen_left, AnswersNot};
 ghost use Rattle.tool.specs.Reading.{Stops};
@@ -18,6 +20,7 @@ use crate::answers::{
     told_edges, told_end, word_answer, write_bytes,
 };
 use crate::listings::{write_ends, write_runs, write_spans};
+use crate::reasons::reasons_line;
 use device::Sink;
 use lines::{Print, VisualLine, lines_are_ordered, runs_have_all_columns};
 use script_commands::Query;
@@ -402,8 +405,45 @@ fn write_line_clusters<W: Sink, S: ParagraphStore<Kept>>(
     }
 }
 
+// Writes how the algorithms arrive at the level and the break mark of a character. `written` is the number of
+// bytes already written.
+fn write_reasons<W: Sink, S: ParagraphStore<Kept>>(
+    session: &Session<S>,
+    writer: &mut W,
+    written: u64,
+    pos: usize,
+) -> Result<u64, RunFault>
+    requires { written ≤ (W.state writer.old).passed }
+    ensures ok { IfOk result (PassedOn (why_text session.now.kept (rules_of session.now.engine) pos) written
+        (W.state writer.old) (W.state writer.new)) }
+    ensures err { IfErr result (AnswersNot (why_text session.now.kept (rules_of session.now.engine) pos)
+        session.now.kept (Query.Why pos) written (W.state writer.old) (W.state writer.new)) }
+    ensures counted { IfOk result (λ n. n ≤ (W.state writer.new).passed) }
+{
+    match why_line(session, pos) {
+        Ok(Some(line)) => write_bytes(writer, written, &line),
+        Ok(None) => write_bytes(writer, written, &out_of_range()),
+        Err(_) => Err(RunFault::Memory),
+    }
+}
+
+// Returns the reply to `why`, or `None` past the last character.
+fn why_line<S: ParagraphStore<Kept>>(
+    session: &Session<S>,
+    pos: usize,
+) -> Result<Option<Vec<u8>>, AllocError>
+    ensures ok { IfOk result (λ line. option_map (λ line. line.items) line
+        ≡ option_map reasons_text (reasons_at (rules_of session.now.engine) session.now.kept pos)) }
+    ensures memory { OnErr result (pos < length (text_of session.now.kept)) }
+{
+    match session.reasons(pos)? {
+        Some(reasons) => Ok(Some(reasons_line(session.allocator(), &reasons)?)),
+        None => Ok(None),
+    }
+}
+
 /// Writes the reply to a query. `written` is the number of bytes already written, and the returned total
-/// includes it. Allocates only if the query is for an edge, grapheme clusters or a word.
+/// includes it. Allocates only if the query is for an edge, grapheme clusters, a word or reasons.
 pub fn write_query<W: Sink, S: ParagraphStore<Kept>>(
     session: &Session<S>,
     writer: &mut W,
@@ -430,6 +470,7 @@ pub fn write_query<W: Sink, S: ParagraphStore<Kept>>(
         }
         Query::Runs(n) => return write_line_runs(session, writer, written, n),
         Query::Clusters(n) => return write_line_clusters(session, writer, written, n),
+        Query::Why(pos) => return write_reasons(session, writer, written, pos),
         Query::Caret(pos) => caret_answer(session, print, pos),
         Query::Hit(n, column) => hit_answer(session, print, n, column),
         Query::Size => size_answer(session),

@@ -71,7 +71,7 @@ impl BidiClass {
         if let Some(class) = frequent(name) {
             return Some(class);
         }
-        ALL.iter().copied().find(|class| class.name() == name)
+        ALL.iter().copied().find(|class| class.name().as_bytes() == name)
     }
 
     /// Returns the class at an index in the order of the enum.
@@ -108,10 +108,11 @@ impl BidiClass {
         }
     }
 
-    fn name(self) -> &'static [u8]
+    /// Returns the short name.
+    pub fn name(self) -> &'static str
         ensures { result.now ≡ name_of self }
     {
-        NAMES[self as usize].as_bytes()
+        NAMES[self as usize]
     }
 }
 

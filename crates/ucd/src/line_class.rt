@@ -164,10 +164,11 @@ impl LineClass {
         }
     }
 
-    fn name(self) -> &'static [u8]
+    /// Returns the short name.
+    pub fn name(self) -> &'static str
         ensures { result.now ≡ name_of self }
     {
-        NAMES[self as usize].as_bytes()
+        NAMES[self as usize]
     }
 }
 
@@ -175,7 +176,10 @@ impl LineClass {
 fn named(classes: &[LineClass], name: &[u8]) -> Option<LineClass>
     ensures { result ≡ find (λ c. bytes_eq (name_of c) name.now) classes.now }
 {
-    classes.iter().copied().find(|class| class.name() == name)
+    classes
+        .iter()
+        .copied()
+        .find(|class| class.name().as_bytes() == name)
 }
 
 // Returns the class with this short name, if it is one of those on nearly all lines of LineBreak.txt.

@@ -1,6 +1,8 @@
-//! Tests of the characters at columns, of carets, of the columns of lines, of grapheme clusters and of words.
+//! Tests of the characters at columns, of carets, of the columns of lines, of grapheme clusters, of words and of
+//! reasons.
 use super::{Check, Pair, check_in_tree, renew};
-use session::{Caret, Cluster, EditFault, Hit, Kept, Session, Word};
+use breaks::LineRule;
+use session::{Caret, CharReasons, Cluster, EditFault, Hit, Kept, Session, Word};
 use std::alloc::AllocError;
 use std::process::Abort;
 use std::test::Fail;
@@ -222,6 +224,51 @@ fn is_word<S: ParagraphStore<Kept>>(
     }
 }
 
+// A text and a position; where the paragraph starts, the level, the bracket's partner in the paragraph, and the
+// rule that decides the break mark.
+type ReasonRow<'a> = (&'a str, usize, Option<(usize, u8, Option<usize>, LineRule)>);
+
+static REASONS: [ReasonRow<'_>; 4] = [
+    ("b\na(\u{5d0})", 1, Some((0, 0, None, LineRule::LB3))),
+    ("b\na(\u{5d0})", 3, Some((2, 0, Some(3), LineRule::LB14))),
+    ("b\na(\u{5d0})", 4, Some((2, 1, None, LineRule::LB13))),
+    ("b\na(\u{5d0})", 6, None),
+];
+
+// Returns reasons, and tries again after an allocation failure.
+fn reasons<S: ParagraphStore<Kept>>(
+    session: &Session<S>,
+    pos: usize,
+) -> Result<Option<CharReasons>, AllocError> {
+    match session.reasons(pos) {
+        Ok(reasons) => Ok(reasons),
+        Err(_) => session.reasons(pos),
+    }
+}
+
+// Returns the position of a bracket's partner.
+fn partner(reasons: &CharReasons) -> Option<usize> {
+    reasons.level.resolved?.step.bracket.partner
+}
+
+fn is_reason<S: ParagraphStore<Kept>>(
+    session: &mut Session<S>,
+    row: &ReasonRow<'_>,
+) -> Result<bool, EditFault> {
+    let (text, pos, wanted) = *row;
+    renew(session, text, 80)?;
+    match (reasons(session, pos), wanted) {
+        (Ok(Some(reasons)), Some((start, level, wanted_partner, rule))) => {
+            Ok((reasons.paragraph_start == start)
+                & (reasons.level.level == level)
+                & (partner(&reasons) == wanted_partner)
+                & (reasons.mark.rule == rule))
+        }
+        (Ok(None), None) => Ok(true),
+        _ => Ok(false),
+    }
+}
+
 // Checks each example over both stores.
 pub(super) fn check_hits<S: ParagraphStore<Kept> + Drop, T: ParagraphStore<Kept> + Drop>(
     rt: &impl Abort,
@@ -243,10 +290,14 @@ pub(super) fn check_hits<S: ParagraphStore<Kept> + Drop, T: ParagraphStore<Kept>
         let is_right = is_word(&mut pair.edited, row)? & is_word(&mut pair.anew, row)?;
         assert!(rt; is_right, "{:?}", row.0);
     }
+    for row in &REASONS {
+        let is_right = is_reason(&mut pair.edited, row)? & is_reason(&mut pair.anew, row)?;
+        assert!(rt; is_right, "{:?}", row.0);
+    }
     check_carets(rt, pair)
 }
 
 #[test]
-fn hits_columns_clusters_words_and_carets_are_as_listed(rt: HostRuntime) -> Result<(), Fail> {
+fn hits_columns_clusters_words_reasons_and_carets_are_as_listed(rt: HostRuntime) -> Result<(), Fail> {
     check_in_tree(&rt, rt.alloc(), Check::Hits)
 }
