@@ -1,10 +1,14 @@
 -- Ends of blocks that are the same whatever follows a text.
-use Rattle.std.proofs.Common.{◌≡◌, ℕ, zero, suc, ◌+◌, ◌-◌, ◌*◌, ◌<◌, ◌≤◌, ◌==◌, Bool, true, false, ◌&&◌, List, [], ◌∷◌, ◌++◌, length, drop, get_or, Option, Some, None, refl, sym, subst, ap, ap₂, inl, inr, ◌∙◌, append_assoc, arith}
+use Rattle.std.proofs.Common.{◌≡◌, ℕ, zero, suc, ◌+◌, ◌-◌, ◌*◌, ◌<◌, ◌≤◌, ◌==◌, Bool, true, false, ◌&&◌, not, List, [], ◌∷◌, ◌++◌, length, drop, get_or, ◌⊎◌, Option, Some, None, refl, sym, subst, ap, ap₂, inl, inr, ◌∙◌, append_assoc, arith}
 use Rattle.std.specs.Prelude.{unwrap_or}
-use Rattle.std.proofs.lemmas.Bool.{and_parts, cases_Bool, cases_lt, cond-true, cond-false, false≢true, eqb-true}
-use Rattle.std.proofs.lemmas.List.{drop-append-le, get_or_append_left, length-append, take-append-le}
+use Rattle.std.proofs.lemmas.Bool.{and_left, and_parts, and_right, cases_Bool, cases_lt, cond-true, cond-false, false≢true, eqb-true}
+use Rattle.std.proofs.lemmas.List.{drop-append-le, drop_more, get_or-drop, get_or_append_left, length-append, length-drop, take-append-le}
 use Rattle.lines.specs.Layouts.{Rules, cut_by}
+use Rattle.ucd.specs.Classes.{is_separator}
 use Rattle.ucd.specs.Tables.{class_of}
+use Rattle.ucd.specs.declared.bidi_class.BidiClass.{BidiClass}
+use Rattle.bidi.specs.Cuts.{first_cut}
+use Rattle.bidi.proofs.LeastLemmas.{least_before}
 use Rattle.sequences.specs.Characters.{is_dropped, is_inline}
 use Rattle.sequences.specs.Known.{knows_sequence}
 use Rattle.sequences.specs.Overstrikes.{after_backspaces, strikes}
@@ -14,7 +18,7 @@ use Rattle.sequences.proofs.KnownLemmas as known
 use Rattle.sequences.proofs.PlainLemmas.{inline_remains, no_sequence}
 use Rattle.terminal.specs.Ends.{AreNoEnds, IsFirst, knows_after, knows_next}
 use Rattle.terminal.specs.Texts.{blocks, ends_block, is_apart, next_after, next_character}
-use Rattle.terminal.proofs.EndLemmas.{block_ends, cut_same}
+use Rattle.terminal.proofs.EndLemmas.{block_ends, cut_same, none_skipped}
 
 -- nothing is struck over a control that is dropped
 pub no_strikes : (c : ℕ) (text : List ℕ) → is_dropped c ≡ true → strikes c text ≡ []
@@ -133,3 +137,64 @@ no_ends_append is_cut n text more within none k below rest =
     ap₂ (ends_block is_cut) (get_or_append_left text more 0 k (omega (arith, below, within)))
     (ap (λ t. t ++ rest) (drop-append-le (k + 1) text more (omega (arith, below, within))) ∙ append_assoc (drop (k + 1) text) more rest)
     ∙ none k below (more ++ rest)
+
+-- ---- paragraph boundaries between adjacent characters
+
+module _ (rules : Rules) where
+  -- if there is no boundary between two characters, no block ends between them, whatever follows
+  uncut_no_end : (c d : ℕ) (rest : List ℕ) → cut_by rules c d ≡ false → ends_block (cut_by rules) c (d ∷ rest) ≡ false
+  uncut_no_end c d rest uncut = and_right (is_apart c) (cut_by rules c (next_character (d ∷ rest))) (by_drop (cases_Bool (is_dropped d)))
+    where
+      class : ℕ → BidiClass
+      class = class_of rules.tables
+
+      no_separator : is_separator (class c) ≡ false → cut_by rules c (next_character (d ∷ rest)) ≡ false
+      no_separator other = and_left (is_separator (class c)) _ other
+
+      -- a control that is dropped is not LF
+      no_lf : is_dropped d ≡ true → (d == 10) ≡ false
+      no_lf dropped = elim (cases_Bool (d == 10)) [
+        | inl y ↦ absurd (false≢true (ap is_dropped (sym (eqb-true d 10 y)) ∙ dropped))
+        | inr n ↦ n
+      ]
+
+      last : (b : Bool) → (b && not false) ≡ false → b ≡ false
+      last true e = e
+      last false e = refl
+
+      by_drop : (is_dropped d ≡ true) ⊎ (is_dropped d ≡ false) → cut_by rules c (next_character (d ∷ rest)) ≡ false
+      by_drop (inr kept) = ap (cut_by rules c) (none_skipped (d ∷ rest) (omega arith) kept) ∙ uncut
+      by_drop (inl dropped) =
+          let same : cut_by rules c d ≡ (is_separator (class c) && not (c == 13 && false)) =
+          ap (λ (b : Bool). is_separator (class c) && not (c == 13 && (b && is_separator (class d)))) (no_lf dropped) in
+          let never : (c == 13 && false) ≡ false = and_right (c == 13) false refl in
+          no_separator (last (is_separator (class c)) (ap (λ (b : Bool). is_separator (class c) && not b) (sym never) ∙ sym same ∙ uncut))
+
+  -- there is no boundary between the characters before the first one
+  pub uncut_before : (rest : List ℕ) (found : Option ℕ) (k : ℕ) → found ≡ first_cut (cut_by rules) rest → 0 < length rest → k + 1 < unwrap_or found (length rest)
+      → cut_by rules (get_or rest k 0) (get_or rest (k + 1) 0) ≡ false
+  uncut_before rest found k f some below =
+      let test : ℕ → Bool = λ m. cut_by rules (get_or rest (m - 1) 0) (get_or rest m 0) in
+      let inside : k + 1 < unwrap_or (first_cut (cut_by rules) rest) (length rest) = subst (λ (o : Option ℕ). k + 1 < unwrap_or o (length rest)) f below in
+      let same : k + 1 - 1 ≡ k = omega arith in
+      subst (λ (i : ℕ). cut_by rules (get_or rest i 0) (get_or rest (k + 1) 0) ≡ false) same
+      (least_before test 1 (length rest - 1) (length rest) (k + 1) (omega (arith, some)) (omega arith) inside)
+
+  -- `AreNoEnds` still holds after more characters without a boundary between them
+  pub no_ends_uncut : (text rest : List ℕ) (from n : ℕ) → rest ≡ drop from text → n ≤ length rest - 1 → AreNoEnds (cut_by rules) from text
+      → ((k : ℕ) → k < n → cut_by rules (get_or rest k 0) (get_or rest (k + 1) 0) ≡ false) → AreNoEnds (cut_by rules) (from + n) text
+  no_ends_uncut text rest from n r within none uncut j below more =
+      elim (cases_lt j from) [
+        | inl less ↦ none j less more
+        | inr over ↦
+            let size : length rest ≡ length text - from = ap length r ∙ length-drop from text in
+            let first : get_or rest (j - from) 0 ≡ get_or text j 0 = read (j - from) j (omega (arith, over)) in
+            let second : get_or rest (j - from + 1) 0 ≡ get_or text (j + 1) 0 = read (j - from + 1) (j + 1) (omega (arith, over)) in
+            let here : cut_by rules (get_or text j 0) (get_or text (j + 1) 0) ≡ false =
+            ap₂ (cut_by rules) (sym first) (sym second) ∙ uncut (j - from) (omega (arith, over, below)) in
+            ap (λ (t : List ℕ). ends_block (cut_by rules) (get_or text j 0) (t ++ more)) (drop_more text (j + 1) 0 (omega (arith, size, within, over, below)))
+            ∙ uncut_no_end (get_or text j 0) (get_or text (j + 1) 0) (drop (j + 1 + 1) text ++ more) here
+      ]
+    where
+      read : (k i : ℕ) → from + k ≡ i → get_or rest k 0 ≡ get_or text i 0
+      read k i e = ap (λ (xs : List ℕ). get_or xs k 0) r ∙ get_or-drop from text k 0 ∙ ap (λ (m : ℕ). get_or text m 0) e

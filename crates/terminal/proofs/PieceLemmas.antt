@@ -1,14 +1,15 @@
 -- Paragraphs over the limit.
-use Rattle.std.proofs.Common.{◌≡◌, ◌⊎◌, ℕ, zero, suc, ◌+◌, ◌-◌, ◌<◌, ◌≤◌, List, [], ◌∷◌, ◌++◌, length, take, drop, refl, sym, subst, ap, ap₂, inl, inr, ◌∙◌, append_assoc, arith, get_or-drop, get_or-take}
-use Rattle.std.specs.Prelude.{slice_range}
-use Rattle.std.specs.List.{flat_map}
-use Rattle.std.proofs.lemmas.List.{append-nil, drop-drop, length-drop, length-map, length-take-le, nil_from_length, take_all}
+use Rattle.std.proofs.Common.{◌≡◌, ◌⊎◌, ℕ, zero, suc, ◌+◌, ◌-◌, ◌<◌, ◌≤◌, Bool, false, ◌||◌, List, [], ◌∷◌, ◌++◌, length, take, drop, refl, sym, subst, ap, ap₂, inl, inr, ◌∙◌, append_assoc, arith, get_or-drop, get_or-take}
+use Rattle.std.specs.Prelude.{nat_lt, slice_range}
+use Rattle.std.specs.List.{concat, flat_map, list_any}
+use Rattle.std.proofs.lemmas.Bool.{le-ltb}
+use Rattle.std.proofs.lemmas.List.{append-nil, drop-drop, length-append, length-drop, length-map, length-take-le, nil_from_length, take_all}
 use Rattle.bidi.specs.Cuts.{paragraphs}
 use Rattle.bidi.specs.Pieces.{ArePieces, IsPiece, ParagraphsArePieces}
 use Rattle.lines.specs.Layouts.{IsParagraph, Rules, base_of, cut_by}
 use Rattle.sequences.specs.Laws.{characters_of}
 use Rattle.sequences.specs.Styled.{Style}
-use Rattle.terminal.specs.Pieces.{IsWhole, first_pieces, in_direction, pieces, printed_each, printed_pieces}
+use Rattle.terminal.specs.Pieces.{IsWhole, first_pieces, has_over, in_direction, pieces, printed_each, printed_pieces}
 use Rattle.terminal.specs.Paragraphs.{styles_of}
 use Rattle.terminal.specs.Prefixes.{printed_bytes, printed_paragraph}
 use Rattle.terminal.specs.declared.form.Form.{Form}
@@ -135,3 +136,16 @@ pub full_is : (text : List ℕ) (shown : List (ℕ × Style)) (at end : ℕ) →
 full_is text shown at end same full =
     let count : length text ≡ length shown = ap length same ∙ length-map shown (λ (c : ℕ × Style). c.0) in
     subst (λ n. ((end ≡ n) × (n - at ≤ 1048576)) ⊎ (end ≡ at + 1048576)) count full
+
+-- ---- paragraphs over the limit
+
+none_over : (parts : List (List ℕ)) → length (concat parts) ≤ 1048576 → list_any (λ (part : List ℕ). nat_lt 1048576 (length part)) parts ≡ false
+none_over [] short = refl
+none_over (part ∷ parts) short =
+    let all : length (part ++ concat parts) ≡ length part + length (concat parts) = length-append part (concat parts) in
+    ap (λ (b : Bool). b || list_any (λ (p : List ℕ). nat_lt 1048576 (length p)) parts) (le-ltb 1048576 (length part) (omega (arith, all, short)))
+    ∙ none_over parts (omega (arith, all, short))
+
+-- no paragraph of a text within the limit is over the limit
+pub not_over : ParagraphsArePieces → (rules : Rules) (text : List ℕ) → length text ≤ 1048576 → has_over rules text ≡ false
+not_over law rules text short = none_over (paragraphs (cut_by rules) text) (omega (arith, ap length (law.whole (cut_by rules) text), short))

@@ -91,6 +91,11 @@ fn paragraph_end(engine: &Engine, characters: &[char], at: usize) -> usize
 fn has_over(engine: &Engine, characters: &[char]) -> bool
     ensures { result ≡ has_over (rules_of engine.now) characters.now }
 {
+    paragraphs_are_pieces();
+    // Fast path: no paragraph is longer than the text.
+    if characters.len() <= PARAGRAPH_LIMIT {
+        return false;
+    }
     let mut rest = characters;
     while !rest.is_empty() {
         let len = match engine.first_cut(rest) {

@@ -43,9 +43,8 @@ fn ends_known(engine: &Engine, c: char, text: &[char], passed: Passed) -> Result
     }
 }
 
-/// Finds the first end of a block in a text. No block may end before `from`, whatever follows the text.
-/// `passed` is how far the text after the character there was scanned.
-pub(crate) fn first_end(engine: &Engine, text: &[char], from: usize, passed: Passed) -> FirstEnd
+// Does the same as `first_end`, one character at a time.
+fn search_end(engine: &Engine, text: &[char], from: usize, passed: Passed) -> FirstEnd
     requires within { from ≤ length text.now }
     requires none { AreNoEnds (cut_by (rules_of engine.now)) from text.now }
     requires passed { HasPassed passed (drop (from + 1) text.now) }
@@ -65,4 +64,39 @@ pub(crate) fn first_end(engine: &Engine, text: &[char], from: usize, passed: Pas
         }
     }
     FirstEnd::After(text.len(), Passed::nothing())
+}
+
+// Returns the index of the first character, from an index on, that is followed by a paragraph boundary, or of
+// the last character. No block ends before it, whatever follows the text.
+fn skip_uncut(engine: &Engine, text: &[char], from: usize) -> usize
+    requires within { from ≤ length text.now }
+    requires none { AreNoEnds (cut_by (rules_of engine.now)) from text.now }
+    ensures within { (from ≤ result) × (result ≤ length text.now) }
+    ensures none { AreNoEnds (cut_by (rules_of engine.now)) result text.now }
+{
+    let (_, rest) = text.split_at(from);
+    match engine.first_cut(rest) {
+        Some(n) => from + (n - 1),
+        None => from + rest.len().saturating_sub(1),
+    }
+}
+
+/// Finds the first end of a block in a text. No block may end before `from`, whatever follows the text.
+/// `passed` is how far the text after the character there was scanned.
+pub(crate) fn first_end(engine: &Engine, text: &[char], from: usize, passed: Passed) -> FirstEnd
+    requires within { from ≤ length text.now }
+    requires none { AreNoEnds (cut_by (rules_of engine.now)) from text.now }
+    requires passed { HasPassed passed (drop (from + 1) text.now) }
+    ensures at { (n : ℕ) → result ≡ FirstEnd.At n → IsFirst (cut_by (rules_of engine.now)) n text.now }
+    ensures open { (n : ℕ) (now : Passed) → result ≡ FirstEnd.After n now
+        → IsOpen (cut_by (rules_of engine.now)) n text.now }
+    ensures passed { (n : ℕ) (now : Passed) → result ≡ FirstEnd.After n now
+        → HasPassed now (drop (n + 1) text.now) }
+{
+    // Fast path: `first_cut` tests many characters together.
+    let start = skip_uncut(engine, text, from);
+    if start > from {
+        return search_end(engine, text, start, Passed::nothing());
+    }
+    search_end(engine, text, from, passed)
 }

@@ -165,10 +165,14 @@ fn push_styled(
 }
 
 // Returns whether all characters have the default style.
-fn is_plain(numbers: &[usize]) -> bool
-    ensures { IsTrue result ↔ EachIndex numbers.now (λ k. slice_index numbers.now k ≡ 0) }
+fn is_plain(part: &Part<'_>) -> bool
+    ensures { IsTrue result ↔ EachIndex part.now.numbers.now (λ k. slice_index part.now.numbers.now k ≡ 0) }
 {
-    numbers.iter().all(|number| *number == 0)
+    // Fast path: without runs, all numbers are 0.
+    if part.text.runs.is_empty() {
+        return true;
+    }
+    part.numbers.iter().all(|number| *number == 0)
 }
 
 // Adds the lines of one paragraph without a prefix.
@@ -188,7 +192,7 @@ fn push_whole(
     ensures rules { SameRules engine.old engine.new }
 {
     // Fast path: without styles, the lines are written without being kept.
-    if is_plain(part.numbers) {
+    if is_plain(part) {
         return push_plain(alloc, page, engine, form, part.characters);
     }
     let lines = LineForm {

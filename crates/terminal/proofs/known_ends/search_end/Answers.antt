@@ -6,7 +6,7 @@ use Rattle.terminal.specs.Texts.{ends_block}
 use Rattle.terminal.specs.declared.known_ends.FirstEnd.TheVariants.{At}
 use Rattle.terminal.proofs.EndLemmas.{read_front}
 use Rattle.terminal.proofs.KnownEndLemmas.{first_is, no_end_more}
-use Rattle.terminal.proofs.known_ends.first_end.Goals as goal
+use Rattle.terminal.proofs.known_ends.search_end.Goals as goal
 
 -- equal results have equal numbers
 at_same : (k n : ℕ) → At k ≡ At n → k ≡ n
