@@ -5,16 +5,17 @@ use Rattle.std.specs.Option.{option_map}
 use Rattle.std.proofs.lemmas.List.{length-append, length-map, take-map, take_at, take_all, append_assoc}
 use Rattle.std.proofs.lemmas.Bool.{cases_eq}
 use Rattle.std.proofs.lemmas.List.FromFn.{length-enumerate_from}
-use Rattle.std.proofs.lemmas.List.Sums.{sum_by-cons, sum_by-append, sum_by_push}
-use Rattle.std.proofs.lemmas.Option.{slice_get-map, slice_get_within, unwrap_or-slice_get}
+use Rattle.std.proofs.lemmas.List.Sums.{sum_by-cons, sum_by-append, sum_by_more, sum_by_more_le, sum_by_push}
+use Rattle.std.proofs.lemmas.Option.{get_or_from_slice_get, slice_get_cases, slice_get-map, slice_get_within, unwrap_or-slice_get}
 use Rattle.lines.specs.Layouts.{Layout}
 use Rattle.lines.specs.Visual.{visual_of}
 use Rattle.store.specs.Finding.{Finds}
 use Rattle.store.specs.declared.found.Found.{Found}
-use Rattle.session.specs.Borders.{IsFrontBorder, IsBackBorder}
+use Rattle.session.specs.Borders.{IsBorder, IsFrontBorder, IsBackBorder}
 use Rattle.lines.specs.Layouts.{visuals}
 use Rattle.session.specs.Kept.{advance_lists, pars_of, text_of, lines_in}
 use Rattle.session.specs.Touched.{start_of}
+use Rattle.session.specs.declared.borders.Border.{Border}
 use Rattle.session.proofs.TouchedLemmas.{start_of-le, start_of-le-length}
 
 abbrev pub chars_of : Layout → ℕ
@@ -153,3 +154,57 @@ pub lines_next : (kept : List Layout) (to lines : ℕ) (found : Found) (l : Layo
 lines_next kept to lines found l read f lines-is =
     let size : lines_of l ≡ lines_of f.item = ap lines_of (item_read chars_of kept to found f l read) in
     omega (arith, f.lines_before, size, sum_whole chars_of kept to found f lines_of)
+
+-- ---- the end of the paragraph that starts at a border
+
+module _ (kept : List Layout) (start : Border) (l : Layout) (border : IsBorder kept start) (read : Some l ≡ slice_get kept start.index) where
+  pub start_within : start.index < length kept
+  start_within = slice_get_within kept start.index l (sym read)
+
+  item_at : get_or kept start.index l ≡ l
+  item_at = get_or_from_slice_get kept start.index l l (sym read)
+
+  sum_through : (g : Layout → ℕ) → sum_by g (take (start.index + 1) kept) ≡ sum_by g (take start.index kept) + g l
+  sum_through g = sum_by_more g kept start.index l start_within ∙ ap (λ (x : Layout). sum_by g (take start.index kept) + g x) item_at
+
+  sum_most : (g : Layout → ℕ) → sum_by g (take start.index kept) + g l ≤ sum_by g kept
+  sum_most g = omega (arith, sum_by_more_le g kept start.index l start_within, ap g item_at)
+
+  chars-is : start.chars ≡ sum_by chars_of (take start.index kept)
+  chars-is = border.chars ∙ start_of-is kept start.index
+
+  lines-is : start.lines ≡ sum_by lines_of (take start.index kept)
+  lines-is = border.lines ∙ length-lines (take start.index kept)
+
+  pub chars_through : start.chars + chars_of l ≤ sum_by chars_of kept
+  chars_through = omega (arith, chars-is, sum_most chars_of)
+
+  pub lines_through : start.lines + lines_of l ≤ sum_by lines_of kept
+  lines_through = omega (arith, lines-is, sum_most lines_of)
+
+  pub IsBorder-next : IsBorder kept (record { index = start.index + 1; chars = start.chars + chars_of l; lines = start.lines + lines_of l })
+  IsBorder-next = record {
+    within = omega (arith, start_within);
+    chars = ap (λ n. n + chars_of l) chars-is ∙ sym (start_of-is kept (start.index + 1) ∙ sum_through chars_of);
+    lines = ap (λ n. n + lines_of l) lines-is ∙ sym (length-lines (take (start.index + 1) kept) ∙ sum_through lines_of);
+  }
+
+pub IsBackBorder-next : (kept : List Layout) (to : ℕ) (start end : Border) → IsBorder kept start → IsBorder kept end → end.index ≡ start.index + 1 → start.chars ≤ to → to < end.chars
+    → IsBackBorder kept to end
+IsBackBorder-next kept to start end from border index above under = record {
+  border_is = border;
+  before = λ i below. let le = start_of-le (pars_of kept) i start.index (omega (arith, index, below)) in omega (arith, le, from.chars, above);
+  after = λ _. omega (arith, under);
+}
+
+pub IsBackBorder-last : (kept : List Layout) (to : ℕ) (end : Border) → IsBorder kept end → None ≡ slice_get kept end.index → end.chars ≤ to → IsBackBorder kept to end
+IsBackBorder-last kept to end border none above =
+    let past : length kept ≤ end.index = elim (slice_get_cases kept end.index).1 [
+      | inl found ↦ absurd (cc (none ∙ found.2))
+      | inr beyond ↦ beyond.0
+    ] in
+    record {
+      border_is = border;
+      before = λ i below. let le = start_of-le (pars_of kept) i end.index (omega (arith, below)) in omega (arith, le, border.chars, above);
+      after = λ more. absurd (omega (arith, more, past));
+    }

@@ -1,9 +1,10 @@
 -- The damaged lines without those that are the same.
-use Rattle.std.proofs.Common.{◌≡◌, ℕ, ◌+◌, ◌-◌, ◌<◌, ◌≤◌, List, [], ◌++◌, length, take, drop, min, get_or, refl, sym, ap, ap₂, subst, ◌∙◌, arith}
+use Rattle.std.proofs.Common.{◌≡◌, ℕ, ◌+◌, ◌-◌, ◌<◌, ◌≤◌, List, [], ◌++◌, length, take, drop, min, get_or, sum_by, refl, sym, ap, ap₂, subst, ◌∙◌, arith}
 use Rattle.std.specs.List.{All, slice_get, slice_range, splice}
 use Rattle.std.proofs.Math.Seq.{drop-append-add, take-append-add}
 use Rattle.std.proofs.lemmas.List.{append-nil, append_assoc, drop-append-le, drop-drop, get_or-append-add, get_or_append_left, length-append, take-append-drop, take-append-le}
 use Rattle.std.proofs.lemmas.List.Concat.{flat_map-append}
+use Rattle.std.proofs.lemmas.List.Sums.{sum_by-append}
 use Rattle.lines.specs.Layouts.{visuals, Layout}
 use Rattle.lines.specs.Matching.{MatchAtEnd, MatchAtStart}
 use Rattle.lines.specs.Visual.{Visual}
@@ -12,6 +13,7 @@ use Rattle.session.specs.Changes.{without_same, AreChanged, AreFound, HasLines}
 use Rattle.session.specs.Kept.{lines_in}
 use Rattle.session.specs.declared.borders.Border.{Border}
 use Rattle.session.specs.declared.edits.Damage.{Damage}
+use Rattle.session.proofs.BorderLemmas.{lines_of}
 use Rattle.session.proofs.EditLemmas.{take_both}
 use Rattle.session.proofs.LineLemmas.{slice_get_after, slice_get_left}
 
@@ -105,9 +107,13 @@ module _ (kept new : List Layout) (front back : Border) (f : IsBorder kept front
       flat_map-append visuals (take front.index kept) (new ++ drop back.index kept)
       ∙ ap (λ vs. lines_in (take front.index kept) ++ vs) (flat_map-append visuals new (drop back.index kept))
 
-  old_count : back.lines - front.lines ≡ length (lines_in mid)
+  pub old_count : back.lines - front.lines ≡ length (lines_in mid)
   old_count =
       omega (arith, f.lines, b.lines, ap (λ ks. length (lines_in ks)) upto, ap length (flat_map-append visuals (take front.index kept) mid), length-append (lines_in (take front.index kept)) (lines_in mid))
+
+  pub new_most : sum_by lines_of new ≤ sum_by lines_of (splice kept front.index back.index new)
+  new_most =
+      omega (arith, sum_by-append lines_of (take front.index kept) (new ++ drop back.index kept), sum_by-append lines_of new (drop back.index kept))
 
   pub damage_fits : (damage_between front back new).first_line + (damage_between front back new).old_lines ≡ back.lines
   damage_fits =

@@ -19,6 +19,11 @@ pub of_err : {A E P : Type 0} (r : Result A E) (e : E) → OnErr r P → r ≡ E
 of_err (Ok x) e p is = absurd (cc is)
 of_err (Err x) e p is = p
 
+-- the error of a result, or a default
+abbrev pub fault_in : {A E : Type 0} → E → Result A E → E
+fault_in d (Ok x) = d
+fault_in d (Err e) = e
+
 -- an empty text has no paragraphs
 pub none_kept : (engine : Engine) (width : ℕ) (is_measured : Bool) (kept : List Layout) → IsWholeLayout (state_of engine width is_measured kept) → length (text_of kept) ≡ 0 → kept ≡ []
 none_kept engine width is_measured kept whole none =

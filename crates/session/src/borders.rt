@@ -1,7 +1,8 @@
 //! Finds the paragraphs of a store that an edit touches, using the store's sums.
-ghost use Rattle.std.specs.Prelude.{◌≡◌, ◌≤◌, ◌-◌, List, [], ℕ, length, take, drop};
-ghost use Rattle.std.specs.Prelude.{slice_index_or, unwrap_or};
-ghost use Rattle.session.specs.Borders.{IsBackBorder, IsFrontBorder};
+ghost use Rattle.std.specs.Prelude.{◌≡◌, ◌+◌, ◌-◌, ◌≤◌, List, [], ℕ, Some, length, take, drop};
+ghost use Rattle.std.specs.Prelude.{option_map, slice_get, slice_index_or, unwrap_or};
+ghost use Rattle.lines.specs.Layouts.{Layout};
+ghost use Rattle.session.specs.Borders.{IsBackBorder, IsBorder, IsFrontBorder};
 ghost use Rattle.session.specs.Kept.{advance_lists, pars_of, text_of};
 
 use crate::joined::Part;
@@ -36,29 +37,96 @@ pub fn front_border<S: ParagraphStore<Kept>>(store: &S, pos: usize) -> Border
     }
 }
 
-/// Returns the end of the last paragraph that is touched by an edit ending at `to`.
-pub fn back_border<S: ParagraphStore<Kept>>(store: &S, to: usize) -> Border
+/// The end of the last paragraph that an edit touches, and this paragraph, or `None` if there is none.
+#[derive(Clone, Copy, Debug)]
+pub struct LastTouched<'a> {
+    pub end: Border,
+    pub kept: Option<&'a Kept>,
+}
+
+// Returns the end of the paragraph that starts at a border.
+fn end_of<S: ParagraphStore<Kept>>(store: &S, start: Border, kept: &Kept) -> Border
+    requires start { IsBorder (S.items store.now) start }
+    requires kept { Some kept.now ≡ slice_get (S.items store.now) start.index }
+    ensures end { IsBorder (S.items store.now) result }
+    ensures index { result.index ≡ start.index + 1 }
+{
+    // The contracts of these calls bound the sums.
+    let (_count, _chars, _lines) = (store.count(), store.total_chars(), store.total_lines());
+    Border {
+        index: start.index + 1,
+        chars: start.chars + kept.chars(),
+        lines: start.lines + kept.lines(),
+    }
+}
+
+// Searches for the last paragraph that is touched by an edit ending at `to`.
+fn find_last_touched<S: ParagraphStore<Kept>>(store: &S, to: usize) -> LastTouched<'_>
     requires { to ≤ length (text_of (S.items store.now)) }
-    ensures { IsBackBorder (S.items store.now) to result }
+    ensures end { IsBackBorder (S.items store.now) to result.end }
+    ensures kept { option_map (λ kept. kept.now) result.kept
+        ≡ slice_get (S.items store.now) (result.end.index - 1) }
 {
     // The contracts of these calls bound the sums.
     let (count, chars, lines) = (store.count(), store.total_chars(), store.total_lines());
     if to == chars {
-        return Border {
-            index: count,
-            chars,
-            lines,
+        return LastTouched {
+            end: Border {
+                index: count,
+                chars,
+                lines,
+            },
+            kept: store.get(count.saturating_sub(1)),
         };
     }
     let found = store.find_char(to);
     match store.get(found.index) {
-        Some(kept) => Border {
-            index: found.index + 1,
-            chars: to - found.rest + kept.chars(),
-            lines: found.lines_before + kept.lines(),
+        Some(kept) => LastTouched {
+            end: Border {
+                index: found.index + 1,
+                chars: to - found.rest + kept.chars(),
+                lines: found.lines_before + kept.lines(),
+            },
+            kept: Some(kept),
         },
         None => unreachable!(),
     }
+}
+
+/// Returns the last paragraph that is touched by an edit ending at `to`, given the first one.
+pub fn last_touched<'a, S: ParagraphStore<Kept>>(
+    store: &'a S,
+    front: Border,
+    first: Option<&'a Kept>,
+    to: usize,
+) -> LastTouched<'a>
+    requires front { IsBorder (S.items store.now) front }
+    requires first { option_map (λ kept. kept.now) first ≡ slice_get (S.items store.now) front.index }
+    requires to { to ≤ length (text_of (S.items store.now)) }
+    ensures end { IsBackBorder (S.items store.now) to result.end }
+    ensures kept { option_map (λ kept. kept.now) result.kept
+        ≡ slice_get (S.items store.now) (result.end.index - 1) }
+{
+    // Fast path for the first paragraph and the one after it: no search.
+    let Some(kept) = first else {
+        return find_last_touched(store, to);
+    };
+    if to < front.chars {
+        return find_last_touched(store, to);
+    }
+    let end = end_of(store, front, kept);
+    if to < end.chars {
+        return LastTouched { end, kept: first };
+    }
+    let second = store.get(end.index);
+    let Some(kept) = second else {
+        return LastTouched { end, kept: first };
+    };
+    let end = end_of(store, end, kept);
+    if to < end.chars {
+        return LastTouched { end, kept: second };
+    }
+    find_last_touched(store, to)
 }
 
 /// Returns the first `to` items, or all if there are fewer.
@@ -86,13 +154,16 @@ fn advances_of(kept: &Kept) -> &[u32]
 }
 
 /// Returns the characters before `pos` in the paragraph that starts at a border, with their advances.
-pub fn front_part<S: ParagraphStore<Kept>>(store: &S, border: Border, pos: usize) -> Part<'_>
-    ensures text { result.text.now
-        ≡ take (pos - border.chars) (slice_index_or (pars_of (S.items store.now)) border.index []) }
-    ensures advances { result.advances.now
-        ≡ take (pos - border.chars) (slice_index_or (advance_lists (S.items store.now)) border.index []) }
+pub fn front_part(first: Option<&Kept>, border: Border, pos: usize) -> Part<'_>
+    ensures text { (kept : List Layout)
+        → option_map (λ kept. kept.now) first.entry ≡ slice_get kept border.index
+        → result.text.now ≡ take (pos - border.chars) (slice_index_or (pars_of kept) border.index []) }
+    ensures advances { (kept : List Layout)
+        → option_map (λ kept. kept.now) first.entry ≡ slice_get kept border.index
+        → result.advances.now
+        ≡ take (pos - border.chars) (slice_index_or (advance_lists kept) border.index []) }
 {
-    match store.get(border.index) {
+    match first {
         Some(kept) => {
             let len = pos.saturating_sub(border.chars);
             Part {
@@ -108,16 +179,19 @@ pub fn front_part<S: ParagraphStore<Kept>>(store: &S, border: Border, pos: usize
 }
 
 /// Returns the characters at and after `from` in the paragraph that ends at a border, with their advances.
-pub fn back_part<S: ParagraphStore<Kept>>(store: &S, border: Border, from: usize) -> Part<'_>
-    ensures text { (text : List ℕ) → text ≡ slice_index_or (pars_of (S.items store.now)) (border.index - 1) []
-        → result.text.now ≡ drop (length text - (border.chars - from)) text }
-    ensures advances { (list : List ℕ)
-        → list ≡ slice_index_or (advance_lists (S.items store.now)) (border.index - 1) []
-        → result.advances.now ≡ drop (length list - (border.chars - from)) list }
+pub fn back_part(last: LastTouched<'_>, from: usize) -> Part<'_>
+    ensures text { (kept : List Layout)
+        → option_map (λ kept. kept.now) last.entry.kept ≡ slice_get kept (last.entry.end.index - 1)
+        → (text : List ℕ) → text ≡ slice_index_or (pars_of kept) (last.entry.end.index - 1) []
+        → result.text.now ≡ drop (length text - (last.entry.end.chars - from)) text }
+    ensures advances { (kept : List Layout)
+        → option_map (λ kept. kept.now) last.entry.kept ≡ slice_get kept (last.entry.end.index - 1)
+        → (list : List ℕ) → list ≡ slice_index_or (advance_lists kept) (last.entry.end.index - 1) []
+        → result.advances.now ≡ drop (length list - (last.entry.end.chars - from)) list }
 {
-    match store.get(border.index.saturating_sub(1)) {
+    match last.kept {
         Some(kept) => {
-            let len = border.chars.saturating_sub(from);
+            let len = last.end.chars.saturating_sub(from);
             let (text, advances) = (kept.laid().text(), advances_of(kept));
             Part {
                 text: back(text, text.len().saturating_sub(len)),

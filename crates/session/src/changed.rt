@@ -1,7 +1,7 @@
 //! Finds which of the damaged lines are not the same as before. Compares the old paragraphs with the new ones
 //! from both ends, one pair after another. Two lines can be the same only if both are the first of their
 //! paragraph or both are not, so the search ends at the first pair whose line counts differ.
-ghost use Rattle.std.specs.Prelude.{◌≡◌, ◌+◌, ◌^◌, ◌<◌, ◌≤◌, ℕ, length, map};
+ghost use Rattle.std.specs.Prelude.{◌≡◌, ◌+◌, ◌^◌, ◌<◌, ◌≤◌, ℕ, length, map, sum_by};
 ghost use Rattle.std.specs.List.{All, slice_range};
 ghost use Rattle.lines.specs.Layouts.{visuals, Rules};
 ghost use Rattle.lines.specs.Matching.{MatchAtEnd, MatchAtStart};
@@ -101,15 +101,31 @@ fn ends_of_pair(old: &Kept, new: &Kept) -> SameEnds
     SameEnds { start, end }
 }
 
-/// Returns how many lines at each end of adjacent paragraphs are the same as those of the new ones.
+// Returns the number of lines of some paragraphs.
+fn line_count(new: &[Kept]) -> usize
+    requires { sum_by (λ l. length l.lines) new.now < 2 ^ 64 }
+    ensures { result ≡ sum_by (λ l. length l.lines) new.now }
+{
+    let mut count = 0;
+    for i in 0..new.len() {
+        count += new[i].lines();
+    }
+    count
+}
+
+/// Returns how many lines at each end of adjacent paragraphs, which have `lines` lines, are the same as those
+/// of the new ones.
 pub fn same_ends<S: ParagraphStore<Kept>>(
     store: &S,
     first: usize,
     end: usize,
+    lines: usize,
     new: &[Kept],
 ) -> SameEnds
     requires order { first ≤ end }
     requires within { end ≤ length (S.items store.now) }
+    requires lines { lines ≡ length (lines_in (slice_range (S.items store.now) first end)) }
+    requires fit { sum_by (λ l. length l.lines) new.now < 2 ^ 64 }
     ensures start { All HasLines (S.items store.now) → All HasLines new.now → MatchAtStart
         (lines_in (slice_range (S.items store.now) first end)) (lines_in new.now) result.start }
     ensures end { All HasLines (S.items store.now) → All HasLines new.now → MatchAtEnd
@@ -122,10 +138,14 @@ pub fn same_ends<S: ParagraphStore<Kept>>(
         };
         return ends_of_pair(kept, &new[0]);
     }
-    SameEnds {
-        start: matching_at_start(store, first, end, new),
-        end: matching_at_end(store, first, end, new),
-    }
+    let start = matching_at_start(store, first, end, new);
+    // Fast path: if all lines but the last of both are the same, the last lines differ.
+    let end = if start < lines && lines - start == 1 && line_count(new) == lines {
+        0
+    } else {
+        matching_at_end(store, first, end, new)
+    };
+    SameEnds { start, end }
 }
 
 // Returns how many lines at the start of adjacent paragraphs are the same as at the start of the new ones.

@@ -12,7 +12,7 @@ ghost use Rattle.session.specs.Measuring.{spliced, SetsAdvances, SetsAdvancesNot
 ghost use Rattle.session.specs.Sessions.{state_of, IsWholeLayout};
 ghost use Rattle.session.specs.declared.edits.AdvanceFault.TheVariants.{NoMemory};
 
-use crate::borders::{Border, back_border, back_part, front_border, front_part};
+use crate::borders::{Border, back_part, front_border, front_part, last_touched};
 use crate::edits::{AdvanceFault, ChangedLines, Damage};
 use crate::joined::Form;
 use crate::kept::Kept;
@@ -194,11 +194,14 @@ pub fn set_advances<S: ParagraphStore<Kept>>(
     paragraphs_are_pieces();
     lines_are_few();
     let end = pos + list.len();
-    let (front, back) = (front_border(store, pos + 1), back_border(store, end - 1));
+    let front = front_border(store, pos + 1);
+    let first = store.get(front.index);
+    let last = last_touched(store, front, first, end - 1);
+    let back = last.end;
     let spliced = Spliced {
-        front: front_part(store, front, pos).advances,
+        front: front_part(first, front, pos).advances,
         new: list,
-        back: back_part(store, back, end).advances,
+        back: back_part(last, end).advances,
     };
     if !has_room(store, front.index, back.index, &spliced) {
         return Err(AdvanceFault::ParagraphTooLong);

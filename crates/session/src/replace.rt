@@ -12,7 +12,7 @@ ghost use Rattle.session.specs.declared.offsets.Encoding.TheVariants.{Utf8, Utf1
 ghost use Rattle.session.specs.Borders.{damage_between, IsBorder};
 ghost use Rattle.session.specs.declared.edits.EditFault.TheVariants.{NoMemory};
 
-use crate::borders::{Border, back_border, back_part, front_border, front_part};
+use crate::borders::{Border, back_part, front_border, front_part, last_touched};
 use crate::changed::{same_ends, without_same};
 use crate::edits::{ChangedLines, Damage, EditFault, TEXT_LIMIT, TextRange};
 use crate::joined::{Form, lay_out_joined};
@@ -64,13 +64,13 @@ pub fn put<S: ParagraphStore<Kept>>(
     ensures memory { OnErr result (0 < back.index - front.index + length new.items) }
     ensures engine { engine.new ≡ engine.old }
 {
-    let same = same_ends(store, front.index, back.index, &new);
+    let old_lines = back.lines - front.lines;
+    let same = same_ends(store, front.index, back.index, old_lines, &new);
     let (total, new_pars) = (store.total_lines(), new.len());
     match store.replace(front.index..back.index, new) {
         Ok(old) => recycle(engine, old),
         Err(_) => return Err(EditFault::NoMemory),
     }
-    let old_lines = back.lines - front.lines;
     let damage = Damage {
         first_line: front.lines,
         old_lines,
@@ -119,8 +119,14 @@ pub fn replace<S: ParagraphStore<Kept>>(
     // not overflow.
     paragraphs_are_pieces();
     lines_are_few();
-    let (front, back) = (front_border(store, pos), back_border(store, end));
-    let (before, after) = (front_part(store, front, pos), back_part(store, back, end));
+    let front = front_border(store, pos);
+    let first = store.get(front.index);
+    let last = last_touched(store, front, first, end);
+    let (back, before, after) = (
+        last.end,
+        front_part(first, front, pos),
+        back_part(last, end),
+    );
     let new = match lay_out_joined(alloc, engine, &before, piece, &after, form) {
         Ok(new) => new,
         Err(fault) => return Err(fault),

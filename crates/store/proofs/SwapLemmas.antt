@@ -1,8 +1,8 @@
 -- Exchanging one item of a tree for another: where the item is, and the sums that follow.
-use Rattle.std.proofs.Common.{◌≡◌, ℕ, suc, ◌+◌, ◌-◌, ◌^◌, ◌<◌, ◌≤◌, List, [], ◌∷◌, ◌++◌, length, take, drop, get_or, slice_range, sum_by, Some, refl, ap, sym, ◌∙◌, subst, arith, append_assoc, length-drop}
-use Rattle.std.specs.List.{slice_get, splice}
+use Rattle.std.proofs.Common.{◌≡◌, ℕ, suc, ◌+◌, ◌-◌, ◌^◌, ◌<◌, ◌≤◌, List, [], ◌∷◌, ◌++◌, length, take, drop, get_or, slice_range, sum_by, Some, refl, ap, ap₂, sym, ◌∙◌, subst, arith, append_assoc, length-drop}
+use Rattle.std.specs.List.{slice_get, slice_set, splice}
 use Rattle.std.proofs.Math.Seq.{take-append_seam, drop-append_seam, take-append-add, drop-append-add}
-use Rattle.std.proofs.lemmas.List.{take-append-le, drop-append-le, drop_more}
+use Rattle.std.proofs.lemmas.List.{take-append-le, drop-append-le, drop-drop, drop_more, length-take-le}
 use Rattle.std.proofs.lemmas.List.Sums.{sum_by-append, sum_by-cons}
 use Rattle.std.proofs.lemmas.Option.{get_or_from_slice_get, slice_get_within}
 use Rattle.store.specs.Subtrees.{tree_of_node, IsSummed}
@@ -13,6 +13,7 @@ use Rattle.store.specs.declared.subtree.Node.{Node}
 use Rattle.store.specs.declared.sums.Sums.{Sums}
 use Rattle.store.specs.declared.sums.Unit.{Unit as Counted}
 use Rattle.store.proofs.FitsLemmas.{sums_less}
+use Rattle.store.proofs.ListLemmas.{sum_of_splice}
 use Rattle.store.proofs.SubtreeLemmas.{summed_again, IsLike}
 use Rattle.store.proofs.SumsLemmas.{new_are, new_fit, old_within, AreAdded, AreSizes}
 
@@ -33,6 +34,53 @@ module _ {A : Type 0} where
   only [] x l e = absurd (omega arith)
   only (y ∷ []) x l e = ap (λ z. z ∷ []) (sym e)
   only (y ∷ z ∷ zs) x l e = absurd (omega arith)
+
+  -- a list of two items
+  pub both : (xs : List A) (x y z : A) → length xs ≡ 2 → x ≡ get_or xs 0 x → y ≡ get_or (slice_set xs 0 z) 1 y → xs ≡ x ∷ y ∷ []
+  both [] x y z l e f = absurd (omega arith)
+  both (v ∷ []) x y z l e f = absurd (omega arith)
+  both (v ∷ w ∷ []) x y z l e f = ap₂ (λ s t. s ∷ t ∷ []) (sym e) (sym f)
+  both (v ∷ w ∷ u ∷ us) x y z l e f = absurd (omega arith)
+
+  pub both_set : (xs : List A) (x y : A) → length xs ≡ 2 → slice_set (slice_set xs 0 x) 1 y ≡ x ∷ y ∷ []
+  both_set [] x y l = absurd (omega arith)
+  both_set (v ∷ []) x y l = absurd (omega arith)
+  both_set (v ∷ w ∷ []) x y l = refl
+  both_set (v ∷ w ∷ u ∷ us) x y l = absurd (omega arith)
+
+  pub first_of : (xs : List A) (x : A) → length xs ≡ 2 → x ≡ get_or xs 0 x → take 1 xs ≡ x ∷ []
+  first_of [] x l e = absurd (omega arith)
+  first_of (v ∷ xs) x l e = ap (λ z. z ∷ []) (sym e)
+
+  -- two adjacent items exchanged, one after the other
+  module _ (xs : List A) (i : ℕ) (within : i + 2 ≤ length xs) (x y : A) where
+    size : length (take i xs) ≡ i
+    size = length-take-le i xs (omega (arith, within))
+
+    past_first : drop (i + 1) (swapped xs i x) ≡ drop (i + 1) xs
+    past_first =
+        let n : i + 1 ≡ length (take i xs) + 1 = omega (arith, size) in
+        ap (λ m. drop m (swapped xs i x)) n ∙ drop-append-add (take i xs) (x ∷ drop (i + 1) xs) 1
+
+    pub swapped_twice : swapped (swapped xs i x) (i + 1) y ≡ splice xs i (i + 2) (x ∷ y ∷ [])
+    swapped_twice =
+        let n : i + 1 ≡ length (take i xs) + 1 = omega (arith, size) in
+        let m : i + 1 + 1 ≡ length (take i xs) + 2 = omega (arith, size) in
+        let k : i + 1 + 1 ≡ i + 2 = omega arith in
+        let front : take (i + 1) (swapped xs i x) ≡ take i xs ++ x ∷ [] = ap (λ j. take j (swapped xs i x)) n ∙ take-append-add (take i xs) (x ∷ drop (i + 1) xs) 1 in
+        let rest : drop (i + 1 + 1) (swapped xs i x) ≡ drop 1 (drop (i + 1) xs) = ap (λ j. drop j (swapped xs i x)) m ∙ drop-append-add (take i xs) (x ∷ drop (i + 1) xs) 2 in
+        let back : drop (i + 1 + 1) (swapped xs i x) ≡ drop (i + 2) xs = rest ∙ drop-drop 1 (i + 1) xs ∙ ap (λ j. drop j xs) k in
+        ap₂ (λ zs ws. zs ++ y ∷ ws) front back ∙ append_assoc (take i xs) (x ∷ []) (y ∷ drop (i + 2) xs)
+
+    pub range_of_two : (v w : A) → v ∷ [] ≡ slice_range xs i (i + 1) → w ∷ [] ≡ slice_range (swapped xs i x) (i + 1) (i + 1 + 1) → v ∷ w ∷ [] ≡ slice_range xs i (i + 2)
+    range_of_two v w first second =
+        let one : i + 1 - i ≡ 1 = omega arith in
+        let one_2 : i + 1 + 1 - (i + 1) ≡ 1 = omega arith in
+        let two : i + 2 - i ≡ 2 = omega arith in
+        let whole : drop i xs ≡ get_or xs i v ∷ drop (i + 1) xs = drop_more xs i v (omega (arith, within)) in
+        let a : v ∷ [] ≡ get_or xs i v ∷ [] = first ∙ ap (λ m. take m (drop i xs)) one ∙ ap (take 1) whole in
+        let b : w ∷ [] ≡ take 1 (drop (i + 1) xs) = second ∙ ap₂ take one_2 past_first in
+        ap₂ (λ zs ws. get_or zs 0 v ∷ ws) a b ∙ sym (ap₂ take two whole)
 
   -- the exchanged item among a node's items is before the node's own item, is that item itself, or is after it
   module _ (l r : List A) (x y : A) (i : ℕ) where
@@ -82,6 +130,14 @@ module _ {P : Type 0} (G : Ghosts P) where
       sums_less G (swapped (l ++ x ∷ r) i y) (swapped l i y)
       (λ (size : P → ℕ). omega (arith, ap (sum_by size) (swapped_before l r x y i h), sum_by-append size (swapped l i y) (x ∷ r)))
       f
+
+  -- if one more item fits, it fits in place of another one
+  pub fit_first : (xs ys : List P) (i : ℕ) (x : P) → length ys ≡ 2 → x ≡ get_or ys 0 x → SumsFit G (xs ++ take 1 ys) → SumsFit G (swapped xs i x)
+  fit_first xs ys i x two is f = record {
+    each = λ (u : Counted).
+        let size = measure G u in
+        omega (arith, sum_of_splice size xs i (i + 1) (x ∷ []) (omega arith), f.each u, sum_by-append size xs (take 1 ys), ap (sum_by size) (first_of ys x two is));
+  }
 
   pub fit_after : (l r : List P) (x y : P) (i k : ℕ) → i ≡ length l + 1 + k → SumsFit G (swapped (l ++ x ∷ r) i y) → SumsFit G (swapped r k y)
   fit_after l r x y i k e f =

@@ -1,5 +1,5 @@
 //! The tree store: a balanced tree in which each node stores the sums of all items in its subtree.
-ghost use Rattle.std.specs.Prelude.{◌≡◌, ◌+◌, ◌-◌, ◌/◌, ◌^◌, ◌<◌, ◌≤◌, ◌++◌};
+ghost use Rattle.std.specs.Prelude.{◌≡◌, ◌+◌, ◌-◌, ◌/◌, ◌^◌, ◌<◌, ◌≤◌, ◌∷◌, ◌++◌, true};
 ghost use Rattle.std.specs.Prelude.{ℕ, List, [], length, reverse, drop, take};
 ghost use Rattle.std.specs.Prelude.{slice_range, sum_by, vec_capacity};
 ghost use Rattle.std.specs.Prelude.{IfOk, IfErr, OnOk, OnErr};
@@ -90,6 +90,47 @@ impl<P: Measured> TreeStore<P> {
     {
         let (less, more) = (self.root.sizes_at(index), Sums::of(&items[0]));
         self.root.swap_item(index, &mut items[0], less, more);
+    }
+
+    // Exchanges the item at an index for another one. Allocates nothing.
+    fn exchange(&mut self, index: usize, item: &mut P)
+        requires within { index < length (in_order self.old) }
+        requires fit { SumsFit P.Measured
+            (splice (in_order self.old) index (index + 1) (item.old ∷ [])) }
+        ensures items { in_order self.new
+            ≡ splice (in_order self.old) index (index + 1) (item.old ∷ []) }
+        ensures out { item.new ∷ [] ≡ slice_range (in_order self.old) index (index + 1) }
+    {
+        let (less, more) = (self.root.sizes_at(index), Sums::of(item));
+        self.root.swap_item(index, item, less, more);
+    }
+
+    // Exchanges two adjacent items for the two items of a list, one after the other. Allocates nothing.
+    fn replace_two(&mut self, index: usize, items: &mut Vec<P>)
+        requires within { index + 2 ≤ length (in_order self.old) }
+        requires two { length items.old.items ≡ 2 }
+        requires room { SumsFit P.Measured (in_order self.old ++ take 1 items.old.items) }
+        requires fit { SumsFit P.Measured
+            (splice (in_order self.old) index (index + 2) items.old.items) }
+        ensures items { in_order self.new
+            ≡ splice (in_order self.old) index (index + 2) items.old.items }
+        ensures out { items.new.items ≡ slice_range (in_order self.old) index (index + 2) }
+    {
+        // The contract of `count` bounds the index.
+        let _count = self.root.count();
+        self.exchange(index, &mut items[0]);
+        self.exchange(index + 1, &mut items[1]);
+    }
+
+    // Returns whether the sums of all items and one more item fit in a `usize`.
+    fn has_room(&self, item: &P) -> bool
+        ensures { result ≡ true → SumsFit P.Measured (in_order self.now ++ item.now ∷ []) }
+    {
+        let (sums, more) = (self.root.sums(), Sums::of(item));
+        (sums.chars <= usize::MAX - more.chars)
+            & (sums.lines <= usize::MAX - more.lines)
+            & (sums.bytes <= usize::MAX - more.bytes)
+            & (sums.utf16 <= usize::MAX - more.utf16)
     }
 }
 
@@ -276,6 +317,10 @@ impl<P: Measured> ParagraphStore<P> for TreeStore<P> {
         let removed = range.end - range.start;
         if removed == 1 && new_items.len() == 1 {
             self.replace_one(range.start, &mut new_items);
+            return Ok(new_items);
+        }
+        if removed == 2 && new_items.len() == 2 && self.has_room(&new_items[0]) {
+            self.replace_two(range.start, &mut new_items);
             return Ok(new_items);
         }
         let kept = self.root.count() - removed;

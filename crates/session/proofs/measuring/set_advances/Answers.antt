@@ -51,8 +51,8 @@ front_border-front-requires g c =
     let within : c.args.pos + length c.args.list.now ≤ length (text_of kept) = omega (arith, size, c.if-list-len.false, c.if-pos-len.false) in
     omega (arith, within, some)
 
-pub back_border-back-requires : goal.back_border-back-requires
-back_border-back-requires g c =
+pub last_touched-last-requires-clause-to : goal.last_touched-last-requires-clause-to
+last_touched-last-requires-clause-to g c =
     let kept = g.S.ParagraphStore.items c.args.store.now in
     let size : c.total_chars-len.result ≡ length (text_of kept) = c.total_chars-len.ensures ∙ sym (length-text kept) in
     let some : 0 < length c.args.list.now = omega (arith, eqb-false (length c.args.list.now) 0 (sym c.if-is_empty.ensures)) in
@@ -64,9 +64,9 @@ has_room-requires-clause-order g c =
     let kept = g.S.ParagraphStore.items c.args.store.now in
     let is = not-false c.args.form.is_measured c.if-not-form.false in
     let whole = subst (λ b. IsWholeLayout (state_of c.args.engine.now c.args.form.width b kept)) is c.requires in
-    let range = range_of kept c.total_chars-len.result c.args.pos c.args.list.now c.front_border-front.result c.back_border-back.result c.paragraphs_are_pieces.ensures c.lines_are_few.ensures
+    let range = range_of kept c.total_chars-len.result c.args.pos c.args.list.now c.front_border-front.result c.last_touched-last.result.end c.paragraphs_are_pieces.ensures c.lines_are_few.ensures
     c.total_chars-len.ensures (omega (arith, eqb-false (length c.args.list.now) 0 (sym c.if-is_empty.ensures))) (omega (arith, c.if-list-len.false, c.if-pos-len.false))
-    c.front_border-front.ensures c.back_border-back.ensures in
+    c.front_border-front.ensures c.last_touched-last.ensures.end in
     omega (arith, order c.args.engine.now c.args.form.width kept whole range)
 
 pub has_room-requires-clause-each : goal.has_room-requires-clause-each
@@ -74,12 +74,12 @@ has_room-requires-clause-each g c =
     let kept = g.S.ParagraphStore.items c.args.store.now in
     let is = not-false c.args.form.is_measured c.if-not-form.false in
     let whole = subst (λ b. IsWholeLayout (state_of c.args.engine.now c.args.form.width b kept)) is c.requires in
-    let range = range_of kept c.total_chars-len.result c.args.pos c.args.list.now c.front_border-front.result c.back_border-back.result c.paragraphs_are_pieces.ensures c.lines_are_few.ensures
+    let range = range_of kept c.total_chars-len.result c.args.pos c.args.list.now c.front_border-front.result c.last_touched-last.result.end c.paragraphs_are_pieces.ensures c.lines_are_few.ensures
     c.total_chars-len.ensures (omega (arith, eqb-false (length c.args.list.now) 0 (sym c.if-is_empty.ensures))) (omega (arith, c.if-list-len.false, c.if-pos-len.false))
-    c.front_border-front.ensures c.back_border-back.ensures in
+    c.front_border-front.ensures c.last_touched-last.ensures.end in
     let spliced-is : spliced (record { front = c.front_part.result.advances; new = c.args.list; back = c.back_part.result.advances })
     ≡ region c.args.engine.now c.args.form.width kept whole range =
-    ap₂ (λ (xs ys : List ℕ). xs ++ (c.args.list.now ++ ys)) c.front_part.ensures.advances (c.back_part.ensures.advances _ refl) in
+    ap₂ (λ (xs ys : List ℕ). xs ++ (c.args.list.now ++ ys)) (c.front_part.ensures.advances kept c.get-first.ensures) (c.back_part.ensures.advances kept c.last_touched-last.ensures.kept _ refl) in
     ap length spliced-is ∙ region_sizes c.args.engine.now c.args.form.width kept whole range
 
 pub has_room-requires-clause-fits : goal.has_room-requires-clause-fits
@@ -88,12 +88,12 @@ has_room-requires-clause-fits g c =
     let is = not-false c.args.form.is_measured c.if-not-form.false in
     let whole = subst (λ b. IsWholeLayout (state_of c.args.engine.now c.args.form.width b kept)) is c.requires in
     let size : c.total_chars-len.result ≡ length (text_of kept) = c.total_chars-len.ensures ∙ sym (length-text kept) in
-    let range = range_of kept c.total_chars-len.result c.args.pos c.args.list.now c.front_border-front.result c.back_border-back.result c.paragraphs_are_pieces.ensures c.lines_are_few.ensures
+    let range = range_of kept c.total_chars-len.result c.args.pos c.args.list.now c.front_border-front.result c.last_touched-last.result.end c.paragraphs_are_pieces.ensures c.lines_are_few.ensures
     c.total_chars-len.ensures (omega (arith, eqb-false (length c.args.list.now) 0 (sym c.if-is_empty.ensures))) (omega (arith, c.if-list-len.false, c.if-pos-len.false))
-    c.front_border-front.ensures c.back_border-back.ensures in
+    c.front_border-front.ensures c.last_touched-last.ensures.end in
     let spliced-is : spliced (record { front = c.front_part.result.advances; new = c.args.list; back = c.back_part.result.advances })
     ≡ region c.args.engine.now c.args.form.width kept whole range =
-    ap₂ (λ (xs ys : List ℕ). xs ++ (c.args.list.now ++ ys)) c.front_part.ensures.advances (c.back_part.ensures.advances _ refl) in
+    ap₂ (λ (xs ys : List ℕ). xs ++ (c.args.list.now ++ ys)) (c.front_part.ensures.advances kept c.get-first.ensures) (c.back_part.ensures.advances kept c.last_touched-last.ensures.kept _ refl) in
     omega (
       arith,
       ap length spliced-is,
@@ -108,13 +108,13 @@ returns-then-not-has_room-clause-err g c =
     let kept = g.S.ParagraphStore.items c.args.store.now in
     let is = not-false c.args.form.is_measured c.if-not-form.false in
     let whole = subst (λ b. IsWholeLayout (state_of c.args.engine.now c.args.form.width b kept)) is c.requires in
-    let range = range_of kept c.total_chars-len.result c.args.pos c.args.list.now c.front_border-front.result c.back_border-back.result c.paragraphs_are_pieces.ensures c.lines_are_few.ensures
+    let range = range_of kept c.total_chars-len.result c.args.pos c.args.list.now c.front_border-front.result c.last_touched-last.result.end c.paragraphs_are_pieces.ensures c.lines_are_few.ensures
     c.total_chars-len.ensures (omega (arith, eqb-false (length c.args.list.now) 0 (sym c.if-is_empty.ensures))) (omega (arith, c.if-list-len.false, c.if-pos-len.false))
-    c.front_border-front.ensures c.back_border-back.ensures in
+    c.front_border-front.ensures c.last_touched-last.ensures.end in
     let spliced-is : spliced (record { front = c.front_part.result.advances; new = c.args.list; back = c.back_part.result.advances })
     ≡ region c.args.engine.now c.args.form.width kept whole range =
-    ap₂ (λ (xs ys : List ℕ). xs ++ (c.args.list.now ++ ys)) c.front_part.ensures.advances (c.back_part.ensures.advances _ refl) in
-    let mid = slice_range (pars_of kept) c.front_border-front.result.index c.back_border-back.result.index in
+    ap₂ (λ (xs ys : List ℕ). xs ++ (c.args.list.now ++ ys)) (c.front_part.ensures.advances kept c.get-first.ensures) (c.back_part.ensures.advances kept c.last_touched-last.ensures.kept _ refl) in
+    let mid = slice_range (pars_of kept) c.front_border-front.result.index c.last_touched-last.result.end.index in
     let none : have_room (region c.args.engine.now c.args.form.width kept whole range) mid ≡ false =
     ap (λ l. have_room l mid) (sym spliced-is) ∙ sym c.has_room.ensures ∙ c.if-not-has_room.true in
     let refused = refusal_is c.args.engine.now c.args.form.width kept whole range
@@ -127,9 +127,9 @@ remeasure_each-laid-requires-clause-order g c =
     let kept = g.S.ParagraphStore.items c.args.store.now in
     let is = not-false c.args.form.is_measured c.if-not-form.false in
     let whole = subst (λ b. IsWholeLayout (state_of c.args.engine.now c.args.form.width b kept)) is c.requires in
-    let range = range_of kept c.total_chars-len.result c.args.pos c.args.list.now c.front_border-front.result c.back_border-back.result c.paragraphs_are_pieces.ensures c.lines_are_few.ensures
+    let range = range_of kept c.total_chars-len.result c.args.pos c.args.list.now c.front_border-front.result c.last_touched-last.result.end c.paragraphs_are_pieces.ensures c.lines_are_few.ensures
     c.total_chars-len.ensures (omega (arith, eqb-false (length c.args.list.now) 0 (sym c.if-is_empty.ensures))) (omega (arith, c.if-list-len.false, c.if-pos-len.false))
-    c.front_border-front.ensures c.back_border-back.ensures in
+    c.front_border-front.ensures c.last_touched-last.ensures.end in
     omega (arith, order c.args.engine.now c.args.form.width kept whole range)
 
 pub remeasure_each-laid-requires-clause-each : goal.remeasure_each-laid-requires-clause-each
@@ -137,12 +137,12 @@ remeasure_each-laid-requires-clause-each g c =
     let kept = g.S.ParagraphStore.items c.args.store.now in
     let is = not-false c.args.form.is_measured c.if-not-form.false in
     let whole = subst (λ b. IsWholeLayout (state_of c.args.engine.now c.args.form.width b kept)) is c.requires in
-    let range = range_of kept c.total_chars-len.result c.args.pos c.args.list.now c.front_border-front.result c.back_border-back.result c.paragraphs_are_pieces.ensures c.lines_are_few.ensures
+    let range = range_of kept c.total_chars-len.result c.args.pos c.args.list.now c.front_border-front.result c.last_touched-last.result.end c.paragraphs_are_pieces.ensures c.lines_are_few.ensures
     c.total_chars-len.ensures (omega (arith, eqb-false (length c.args.list.now) 0 (sym c.if-is_empty.ensures))) (omega (arith, c.if-list-len.false, c.if-pos-len.false))
-    c.front_border-front.ensures c.back_border-back.ensures in
+    c.front_border-front.ensures c.last_touched-last.ensures.end in
     let spliced-is : spliced (record { front = c.front_part.result.advances; new = c.args.list; back = c.back_part.result.advances })
     ≡ region c.args.engine.now c.args.form.width kept whole range =
-    ap₂ (λ (xs ys : List ℕ). xs ++ (c.args.list.now ++ ys)) c.front_part.ensures.advances (c.back_part.ensures.advances _ refl) in
+    ap₂ (λ (xs ys : List ℕ). xs ++ (c.args.list.now ++ ys)) (c.front_part.ensures.advances kept c.get-first.ensures) (c.back_part.ensures.advances kept c.last_touched-last.ensures.kept _ refl) in
     ap length spliced-is ∙ region_sizes c.args.engine.now c.args.form.width kept whole range
 
 pub remeasure_each-laid-requires-clause-fits : goal.remeasure_each-laid-requires-clause-fits
@@ -151,12 +151,12 @@ remeasure_each-laid-requires-clause-fits g c =
     let is = not-false c.args.form.is_measured c.if-not-form.false in
     let whole = subst (λ b. IsWholeLayout (state_of c.args.engine.now c.args.form.width b kept)) is c.requires in
     let size : c.total_chars-len.result ≡ length (text_of kept) = c.total_chars-len.ensures ∙ sym (length-text kept) in
-    let range = range_of kept c.total_chars-len.result c.args.pos c.args.list.now c.front_border-front.result c.back_border-back.result c.paragraphs_are_pieces.ensures c.lines_are_few.ensures
+    let range = range_of kept c.total_chars-len.result c.args.pos c.args.list.now c.front_border-front.result c.last_touched-last.result.end c.paragraphs_are_pieces.ensures c.lines_are_few.ensures
     c.total_chars-len.ensures (omega (arith, eqb-false (length c.args.list.now) 0 (sym c.if-is_empty.ensures))) (omega (arith, c.if-list-len.false, c.if-pos-len.false))
-    c.front_border-front.ensures c.back_border-back.ensures in
+    c.front_border-front.ensures c.last_touched-last.ensures.end in
     let spliced-is : spliced (record { front = c.front_part.result.advances; new = c.args.list; back = c.back_part.result.advances })
     ≡ region c.args.engine.now c.args.form.width kept whole range =
-    ap₂ (λ (xs ys : List ℕ). xs ++ (c.args.list.now ++ ys)) c.front_part.ensures.advances (c.back_part.ensures.advances _ refl) in
+    ap₂ (λ (xs ys : List ℕ). xs ++ (c.args.list.now ++ ys)) (c.front_part.ensures.advances kept c.get-first.ensures) (c.back_part.ensures.advances kept c.last_touched-last.ensures.kept _ refl) in
     omega (
       arith,
       ap length spliced-is,
@@ -176,13 +176,13 @@ returns-in_default-clause-err g c =
     let kept = g.S.ParagraphStore.items c.args.store.now in
     let is = not-false c.args.form.is_measured c.if-not-form.false in
     let whole = subst (λ b. IsWholeLayout (state_of c.args.engine.now c.args.form.width b kept)) is c.requires in
-    let range = range_of kept c.total_chars-len.result c.args.pos c.args.list.now c.front_border-front.result c.back_border-back.result c.paragraphs_are_pieces.ensures c.lines_are_few.ensures
+    let range = range_of kept c.total_chars-len.result c.args.pos c.args.list.now c.front_border-front.result c.last_touched-last.result.end c.paragraphs_are_pieces.ensures c.lines_are_few.ensures
     c.total_chars-len.ensures (omega (arith, eqb-false (length c.args.list.now) 0 (sym c.if-is_empty.ensures))) (omega (arith, c.if-list-len.false, c.if-pos-len.false))
-    c.front_border-front.ensures c.back_border-back.ensures in
+    c.front_border-front.ensures c.last_touched-last.ensures.end in
     let spliced-is : spliced (record { front = c.front_part.result.advances; new = c.args.list; back = c.back_part.result.advances })
     ≡ region c.args.engine.now c.args.form.width kept whole range =
-    ap₂ (λ (xs ys : List ℕ). xs ++ (c.args.list.now ++ ys)) c.front_part.ensures.advances (c.back_part.ensures.advances _ refl) in
-    let mid = slice_range (pars_of kept) c.front_border-front.result.index c.back_border-back.result.index in
+    ap₂ (λ (xs ys : List ℕ). xs ++ (c.args.list.now ++ ys)) (c.front_part.ensures.advances kept c.get-first.ensures) (c.back_part.ensures.advances kept c.last_touched-last.ensures.kept _ refl) in
+    let mid = slice_range (pars_of kept) c.front_border-front.result.index c.last_touched-last.result.end.index in
     let has : have_room (region c.args.engine.now c.args.form.width kept whole range) mid ≡ true =
     ap (λ l. have_room l mid) (sym spliced-is) ∙ sym c.has_room.ensures ∙ c.if-not-has_room.false in
     subst (λ b. SetsAdvancesNot c.args.pos c.args.list.now (state_of c.args.engine.now c.args.form.width b kept) (state_of c.remeasure_each-laid.new.engine c.args.form.width b kept) NoMemory) (sym is)
@@ -193,9 +193,9 @@ put-requires-clause-order g c =
     let kept = g.S.ParagraphStore.items c.args.store.now in
     let is = not-false c.args.form.is_measured c.if-not-form.false in
     let whole = subst (λ b. IsWholeLayout (state_of c.args.engine.now c.args.form.width b kept)) is c.requires in
-    let range = range_of kept c.total_chars-len.result c.args.pos c.args.list.now c.front_border-front.result c.back_border-back.result c.paragraphs_are_pieces.ensures c.lines_are_few.ensures
+    let range = range_of kept c.total_chars-len.result c.args.pos c.args.list.now c.front_border-front.result c.last_touched-last.result.end c.paragraphs_are_pieces.ensures c.lines_are_few.ensures
     c.total_chars-len.ensures (omega (arith, eqb-false (length c.args.list.now) 0 (sym c.if-is_empty.ensures))) (omega (arith, c.if-list-len.false, c.if-pos-len.false))
-    c.front_border-front.ensures c.back_border-back.ensures in
+    c.front_border-front.ensures c.last_touched-last.ensures.end in
     omega (arith, order c.args.engine.now c.args.form.width kept whole range)
 
 pub put-requires-clause-chars_fit : goal.put-requires-clause-chars_fit
@@ -203,14 +203,14 @@ put-requires-clause-chars_fit g c =
     let kept = g.S.ParagraphStore.items c.args.store.now in
     let is = not-false c.args.form.is_measured c.if-not-form.false in
     let whole = subst (λ b. IsWholeLayout (state_of c.args.engine.now c.args.form.width b kept)) is c.requires in
-    let range = range_of kept c.total_chars-len.result c.args.pos c.args.list.now c.front_border-front.result c.back_border-back.result c.paragraphs_are_pieces.ensures c.lines_are_few.ensures
+    let range = range_of kept c.total_chars-len.result c.args.pos c.args.list.now c.front_border-front.result c.last_touched-last.result.end c.paragraphs_are_pieces.ensures c.lines_are_few.ensures
     c.total_chars-len.ensures (omega (arith, eqb-false (length c.args.list.now) 0 (sym c.if-is_empty.ensures))) (omega (arith, c.if-list-len.false, c.if-pos-len.false))
-    c.front_border-front.ensures c.back_border-back.ensures in
+    c.front_border-front.ensures c.last_touched-last.ensures.end in
     let spliced-is : spliced (record { front = c.front_part.result.advances; new = c.args.list; back = c.back_part.result.advances })
     ≡ region c.args.engine.now c.args.form.width kept whole range =
-    ap₂ (λ (xs ys : List ℕ). xs ++ (c.args.list.now ++ ys)) c.front_part.ensures.advances (c.back_part.ensures.advances _ refl) in
+    ap₂ (λ (xs ys : List ℕ). xs ++ (c.args.list.now ++ ys)) (c.front_part.ensures.advances kept c.get-first.ensures) (c.back_part.ensures.advances kept c.last_touched-last.ensures.kept _ refl) in
     let laid = c.in-Ok.ensures.ok ∙ ap (λ l. layouts_from (with_advances (rules_of c.args.engine.now) None) c.args.form.width (Some l)
-    (slice_range (pars_of kept) c.front_border-front.result.index c.back_border-back.result.index)) spliced-is in
+    (slice_range (pars_of kept) c.front_border-front.result.index c.last_touched-last.result.end.index)) spliced-is in
     chars_fit c.args.engine.now c.args.form.width kept whole range
     c.in-Ok.new.items laid
 
@@ -219,14 +219,14 @@ put-requires-clause-lines_fit g c =
     let kept = g.S.ParagraphStore.items c.args.store.now in
     let is = not-false c.args.form.is_measured c.if-not-form.false in
     let whole = subst (λ b. IsWholeLayout (state_of c.args.engine.now c.args.form.width b kept)) is c.requires in
-    let range = range_of kept c.total_chars-len.result c.args.pos c.args.list.now c.front_border-front.result c.back_border-back.result c.paragraphs_are_pieces.ensures c.lines_are_few.ensures
+    let range = range_of kept c.total_chars-len.result c.args.pos c.args.list.now c.front_border-front.result c.last_touched-last.result.end c.paragraphs_are_pieces.ensures c.lines_are_few.ensures
     c.total_chars-len.ensures (omega (arith, eqb-false (length c.args.list.now) 0 (sym c.if-is_empty.ensures))) (omega (arith, c.if-list-len.false, c.if-pos-len.false))
-    c.front_border-front.ensures c.back_border-back.ensures in
+    c.front_border-front.ensures c.last_touched-last.ensures.end in
     let spliced-is : spliced (record { front = c.front_part.result.advances; new = c.args.list; back = c.back_part.result.advances })
     ≡ region c.args.engine.now c.args.form.width kept whole range =
-    ap₂ (λ (xs ys : List ℕ). xs ++ (c.args.list.now ++ ys)) c.front_part.ensures.advances (c.back_part.ensures.advances _ refl) in
+    ap₂ (λ (xs ys : List ℕ). xs ++ (c.args.list.now ++ ys)) (c.front_part.ensures.advances kept c.get-first.ensures) (c.back_part.ensures.advances kept c.last_touched-last.ensures.kept _ refl) in
     let laid = c.in-Ok.ensures.ok ∙ ap (λ l. layouts_from (with_advances (rules_of c.args.engine.now) None) c.args.form.width (Some l)
-    (slice_range (pars_of kept) c.front_border-front.result.index c.back_border-back.result.index)) spliced-is in
+    (slice_range (pars_of kept) c.front_border-front.result.index c.last_touched-last.result.end.index)) spliced-is in
     lines_fit c.args.engine.now c.args.form.width kept whole range
     c.in-Ok.new.items laid
 
@@ -235,14 +235,14 @@ put-requires-clause-bytes_fit g c =
     let kept = g.S.ParagraphStore.items c.args.store.now in
     let is = not-false c.args.form.is_measured c.if-not-form.false in
     let whole = subst (λ b. IsWholeLayout (state_of c.args.engine.now c.args.form.width b kept)) is c.requires in
-    let range = range_of kept c.total_chars-len.result c.args.pos c.args.list.now c.front_border-front.result c.back_border-back.result c.paragraphs_are_pieces.ensures c.lines_are_few.ensures
+    let range = range_of kept c.total_chars-len.result c.args.pos c.args.list.now c.front_border-front.result c.last_touched-last.result.end c.paragraphs_are_pieces.ensures c.lines_are_few.ensures
     c.total_chars-len.ensures (omega (arith, eqb-false (length c.args.list.now) 0 (sym c.if-is_empty.ensures))) (omega (arith, c.if-list-len.false, c.if-pos-len.false))
-    c.front_border-front.ensures c.back_border-back.ensures in
+    c.front_border-front.ensures c.last_touched-last.ensures.end in
     let spliced-is : spliced (record { front = c.front_part.result.advances; new = c.args.list; back = c.back_part.result.advances })
     ≡ region c.args.engine.now c.args.form.width kept whole range =
-    ap₂ (λ (xs ys : List ℕ). xs ++ (c.args.list.now ++ ys)) c.front_part.ensures.advances (c.back_part.ensures.advances _ refl) in
+    ap₂ (λ (xs ys : List ℕ). xs ++ (c.args.list.now ++ ys)) (c.front_part.ensures.advances kept c.get-first.ensures) (c.back_part.ensures.advances kept c.last_touched-last.ensures.kept _ refl) in
     let laid = c.in-Ok.ensures.ok ∙ ap (λ l. layouts_from (with_advances (rules_of c.args.engine.now) None) c.args.form.width (Some l)
-    (slice_range (pars_of kept) c.front_border-front.result.index c.back_border-back.result.index)) spliced-is in
+    (slice_range (pars_of kept) c.front_border-front.result.index c.last_touched-last.result.end.index)) spliced-is in
     units_fit c.args.engine.now c.args.form.width kept whole range
     c.in-Ok.new.items laid len_utf8 utf8_few
 
@@ -251,14 +251,14 @@ put-requires-clause-utf16_fit g c =
     let kept = g.S.ParagraphStore.items c.args.store.now in
     let is = not-false c.args.form.is_measured c.if-not-form.false in
     let whole = subst (λ b. IsWholeLayout (state_of c.args.engine.now c.args.form.width b kept)) is c.requires in
-    let range = range_of kept c.total_chars-len.result c.args.pos c.args.list.now c.front_border-front.result c.back_border-back.result c.paragraphs_are_pieces.ensures c.lines_are_few.ensures
+    let range = range_of kept c.total_chars-len.result c.args.pos c.args.list.now c.front_border-front.result c.last_touched-last.result.end c.paragraphs_are_pieces.ensures c.lines_are_few.ensures
     c.total_chars-len.ensures (omega (arith, eqb-false (length c.args.list.now) 0 (sym c.if-is_empty.ensures))) (omega (arith, c.if-list-len.false, c.if-pos-len.false))
-    c.front_border-front.ensures c.back_border-back.ensures in
+    c.front_border-front.ensures c.last_touched-last.ensures.end in
     let spliced-is : spliced (record { front = c.front_part.result.advances; new = c.args.list; back = c.back_part.result.advances })
     ≡ region c.args.engine.now c.args.form.width kept whole range =
-    ap₂ (λ (xs ys : List ℕ). xs ++ (c.args.list.now ++ ys)) c.front_part.ensures.advances (c.back_part.ensures.advances _ refl) in
+    ap₂ (λ (xs ys : List ℕ). xs ++ (c.args.list.now ++ ys)) (c.front_part.ensures.advances kept c.get-first.ensures) (c.back_part.ensures.advances kept c.last_touched-last.ensures.kept _ refl) in
     let laid = c.in-Ok.ensures.ok ∙ ap (λ l. layouts_from (with_advances (rules_of c.args.engine.now) None) c.args.form.width (Some l)
-    (slice_range (pars_of kept) c.front_border-front.result.index c.back_border-back.result.index)) spliced-is in
+    (slice_range (pars_of kept) c.front_border-front.result.index c.last_touched-last.result.end.index)) spliced-is in
     units_fit c.args.engine.now c.args.form.width kept whole range
     c.in-Ok.new.items laid len_utf16 utf16_few
 
@@ -267,39 +267,39 @@ returns-in-Ok-put-clause-ok g c =
     let kept = g.S.ParagraphStore.items c.args.store.now in
     let is = not-false c.args.form.is_measured c.if-not-form.false in
     let whole = subst (λ b. IsWholeLayout (state_of c.args.engine.now c.args.form.width b kept)) is c.requires in
-    let range = range_of kept c.total_chars-len.result c.args.pos c.args.list.now c.front_border-front.result c.back_border-back.result c.paragraphs_are_pieces.ensures c.lines_are_few.ensures
+    let range = range_of kept c.total_chars-len.result c.args.pos c.args.list.now c.front_border-front.result c.last_touched-last.result.end c.paragraphs_are_pieces.ensures c.lines_are_few.ensures
     c.total_chars-len.ensures (omega (arith, eqb-false (length c.args.list.now) 0 (sym c.if-is_empty.ensures))) (omega (arith, c.if-list-len.false, c.if-pos-len.false))
-    c.front_border-front.ensures c.back_border-back.ensures in
+    c.front_border-front.ensures c.last_touched-last.ensures.end in
     let spliced-is : spliced (record { front = c.front_part.result.advances; new = c.args.list; back = c.back_part.result.advances })
     ≡ region c.args.engine.now c.args.form.width kept whole range =
-    ap₂ (λ (xs ys : List ℕ). xs ++ (c.args.list.now ++ ys)) c.front_part.ensures.advances (c.back_part.ensures.advances _ refl) in
-    let mid = slice_range (pars_of kept) c.front_border-front.result.index c.back_border-back.result.index in
+    ap₂ (λ (xs ys : List ℕ). xs ++ (c.args.list.now ++ ys)) (c.front_part.ensures.advances kept c.get-first.ensures) (c.back_part.ensures.advances kept c.last_touched-last.ensures.kept _ refl) in
+    let mid = slice_range (pars_of kept) c.front_border-front.result.index c.last_touched-last.result.end.index in
     let has : have_room (region c.args.engine.now c.args.form.width kept whole range) mid ≡ true =
     ap (λ l. have_room l mid) (sym spliced-is) ∙ sym c.has_room.ensures ∙ c.if-not-has_room.false in
     let laid = c.in-Ok.ensures.ok ∙ ap (λ l. layouts_from (with_advances (rules_of c.args.engine.now) None) c.args.form.width (Some l)
-    (slice_range (pars_of kept) c.front_border-front.result.index c.back_border-back.result.index)) spliced-is in
+    (slice_range (pars_of kept) c.front_border-front.result.index c.last_touched-last.result.end.index)) spliced-is in
     let done = SetsAdvances-after c.args.engine.now c.args.form.width kept whole range
     c.in-Ok.new.items laid c.remeasure_each-laid.new.engine has c.remeasure_each-laid.ensures.rules c.remeasure_each-laid.ensures.counts in
     rw c.put.ensures.engine (subst (λ d. SetsAdvances c.args.pos c.args.list.now (state_of c.args.engine.now c.args.form.width c.args.form.is_measured kept)
     (state_of c.remeasure_each-laid.new.engine c.args.form.width c.args.form.is_measured (g.S.ParagraphStore.items c.put.new.store)) d) (sym c.in-Ok-put.ensures.damage)
     (subst (λ ks. SetsAdvances c.args.pos c.args.list.now (state_of c.args.engine.now c.args.form.width c.args.form.is_measured kept)
-    (state_of c.remeasure_each-laid.new.engine c.args.form.width c.args.form.is_measured ks) (damage_between c.front_border-front.result c.back_border-back.result c.in-Ok.new.items)) (sym c.in-Ok-put.ensures.ok)
+    (state_of c.remeasure_each-laid.new.engine c.args.form.width c.args.form.is_measured ks) (damage_between c.front_border-front.result c.last_touched-last.result.end c.in-Ok.new.items)) (sym c.in-Ok-put.ensures.ok)
     (subst (λ b. SetsAdvances c.args.pos c.args.list.now (state_of c.args.engine.now c.args.form.width b kept)
-    (state_of c.remeasure_each-laid.new.engine c.args.form.width b (splice kept c.front_border-front.result.index c.back_border-back.result.index c.in-Ok.new.items))
-    (damage_between c.front_border-front.result c.back_border-back.result c.in-Ok.new.items)) (sym is) done)))
+    (state_of c.remeasure_each-laid.new.engine c.args.form.width b (splice kept c.front_border-front.result.index c.last_touched-last.result.end.index c.in-Ok.new.items))
+    (damage_between c.front_border-front.result c.last_touched-last.result.end c.in-Ok.new.items)) (sym is) done)))
 
 pub returns-in-Err-clause-err : goal.returns-in-Err-clause-err
 returns-in-Err-clause-err g c =
     let kept = g.S.ParagraphStore.items c.args.store.now in
     let is = not-false c.args.form.is_measured c.if-not-form.false in
     let whole = subst (λ b. IsWholeLayout (state_of c.args.engine.now c.args.form.width b kept)) is c.requires in
-    let range = range_of kept c.total_chars-len.result c.args.pos c.args.list.now c.front_border-front.result c.back_border-back.result c.paragraphs_are_pieces.ensures c.lines_are_few.ensures
+    let range = range_of kept c.total_chars-len.result c.args.pos c.args.list.now c.front_border-front.result c.last_touched-last.result.end c.paragraphs_are_pieces.ensures c.lines_are_few.ensures
     c.total_chars-len.ensures (omega (arith, eqb-false (length c.args.list.now) 0 (sym c.if-is_empty.ensures))) (omega (arith, c.if-list-len.false, c.if-pos-len.false))
-    c.front_border-front.ensures c.back_border-back.ensures in
+    c.front_border-front.ensures c.last_touched-last.ensures.end in
     let spliced-is : spliced (record { front = c.front_part.result.advances; new = c.args.list; back = c.back_part.result.advances })
     ≡ region c.args.engine.now c.args.form.width kept whole range =
-    ap₂ (λ (xs ys : List ℕ). xs ++ (c.args.list.now ++ ys)) c.front_part.ensures.advances (c.back_part.ensures.advances _ refl) in
-    let mid = slice_range (pars_of kept) c.front_border-front.result.index c.back_border-back.result.index in
+    ap₂ (λ (xs ys : List ℕ). xs ++ (c.args.list.now ++ ys)) (c.front_part.ensures.advances kept c.get-first.ensures) (c.back_part.ensures.advances kept c.last_touched-last.ensures.kept _ refl) in
+    let mid = slice_range (pars_of kept) c.front_border-front.result.index c.last_touched-last.result.end.index in
     let has : have_room (region c.args.engine.now c.args.form.width kept whole range) mid ≡ true =
     ap (λ l. have_room l mid) (sym spliced-is) ∙ sym c.has_room.ensures ∙ c.if-not-has_room.false in
     let worked = subst (λ b. SetsAdvancesNot c.args.pos c.args.list.now (state_of c.args.engine.now c.args.form.width b kept)

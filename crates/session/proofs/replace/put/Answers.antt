@@ -1,4 +1,4 @@
-use Rattle.std.proofs.Common.{◌≡◌, ◌∙◌, ◌-◌, List, ap, refl, subst, sum_by, sym, arith}
+use Rattle.std.proofs.Common.{◌≡◌, ◌∙◌, ◌-◌, ◌^◌, ◌<◌, List, ap, refl, subst, sum_by, sym, arith}
 use Rattle.std.specs.List.{All, slice_range, splice}
 use Rattle.lines.specs.Layouts.{Layout}
 use Rattle.lines.specs.Matching.{MatchAtEnd, MatchAtStart}
@@ -9,14 +9,21 @@ use Rattle.session.specs.declared.edits.ChangedLines.{ChangedLines}
 use Rattle.session.specs.declared.edits.Damage.{Damage}
 use Rattle.session.proofs.BorderLemmas.{lines_of}
 use Rattle.session.proofs.EditLemmas.{AreSums-splice}
-use Rattle.session.proofs.TrimLemmas.{damage_fits, AreFound-put}
+use Rattle.session.proofs.TrimLemmas.{damage_fits, new_most, old_count, AreFound-put}
 use Rattle.session.proofs.replace.put.Goals as goal
 
 pub overflow_sub-old_lines : goal.overflow_sub-old_lines
 overflow_sub-old_lines g c =
-    (AreSums-splice (g.S.ParagraphStore.items c.args.store.now) c.args.new.items c.args.front c.args.back
-    c.total_lines-total.result _ c.requires.front c.requires.back c.requires.order c.total_lines-total.ensures
-    refl).order
+    omega (arith, damage_fits (g.S.ParagraphStore.items c.args.store.now) c.args.new.items c.args.front c.args.back c.requires.front c.requires.back c.requires.order)
+
+pub same_ends-same-requires-clause-lines : goal.same_ends-same-requires-clause-lines
+same_ends-same-requires-clause-lines g c =
+    old_count (g.S.ParagraphStore.items c.args.store.now) c.args.new.items c.args.front c.args.back c.requires.front c.requires.back c.requires.order
+
+pub same_ends-same-requires-clause-fit : goal.same_ends-same-requires-clause-fit
+same_ends-same-requires-clause-fit g c =
+    let most = new_most (g.S.ParagraphStore.items c.args.store.now) c.args.new.items c.args.front c.args.back c.requires.front c.requires.back c.requires.order in
+    subst (λ (ns : List Layout). sum_by lines_of ns < 2 ^ 64) (sym c.deref.ensures.value) (omega (arith, most, c.requires.lines_fit))
 
 pub overflow_sub-damage : goal.overflow_sub-damage
 overflow_sub-damage g c =

@@ -1,4 +1,4 @@
-use Rattle.std.proofs.Common.{◌≡◌, ℕ, ◌+◌, ◌-◌, ◌<◌, ◌≤◌, ◌++◌, List, Option, length, replicate, refl, sym, ap₂, subst, ◌∙◌, arith}
+use Rattle.std.proofs.Common.{◌≡◌, ℕ, ◌+◌, ◌-◌, ◌<◌, ◌≤◌, ◌++◌, List, Option, Err, length, replicate, refl, sym, ap, ap₂, subst, ◌∙◌, arith}
 use Rattle.std.specs.Char.{len_utf8}
 use Rattle.std.specs.Str.{chars}
 use Rattle.std.proofs.lemmas.Iterator.{YieldsList-from_chars}
@@ -18,7 +18,7 @@ use Rattle.session.proofs.EditLemmas.{back_each, front_each, rise, chars_fit, li
 use Rattle.session.proofs.UnitLemmas.{utf8_few, utf16_few}
 use Rattle.session.proofs.RefusalLemmas.{allowed-length, refusal-too_long}
 use Rattle.session.specs.declared.edits.TheConstants.{TEXT_LIMIT}
-use Rattle.session.proofs.WantLemmas.{of_err, some_put}
+use Rattle.session.proofs.WantLemmas.{fault_in, of_err, some_joined, some_put}
 use Rattle.session.proofs.replace.replace.Goals as goal
 use Rattle.session.proofs.replace.replace.Goals.{then-pos-len-via-then-pos-len, then-pos-len-via-else-pos-len+then-count-len}
 
@@ -61,8 +61,8 @@ front_border-front-requires g c =
     let size : c.total_chars-len.result ≡ length (text_of kept) = c.total_chars-len.ensures ∙ sym (length-text kept) in
     omega (arith, size)
 
-pub back_border-back-requires : goal.back_border-back-requires
-back_border-back-requires g c =
+pub last_touched-last-requires-clause-to : goal.last_touched-last-requires-clause-to
+last_touched-last-requires-clause-to g c =
     let kept = g.S.ParagraphStore.items c.args.store.now in
     let piece = chars c.args.piece.now in
     let size : c.total_chars-len.result ≡ length (text_of kept) = c.total_chars-len.ensures ∙ sym (length-text kept) in
@@ -76,10 +76,10 @@ lay_out_joined-requires-clause-front g c =
     let size : c.total_chars-len.result ≡ length (text_of kept) = c.total_chars-len.ensures ∙ sym (length-text kept) in
     let within : c.args.range.pos + c.args.range.count ≤ length (text_of kept) = omega (arith, size) in
     let each = front_each c.paragraphs_are_pieces.ensures c.lines_are_few.ensures c.args.engine.now c.args.form.width c.args.form.is_measured kept c.requires
-    c.args.range.pos c.args.range.count piece within c.front_border-front.result c.back_border-back.result
-    c.front_border-front.ensures c.back_border-back.ensures in
-    subst (λ (t : List ℕ). AreForEach (given_if c.args.form.is_measured c.front_part-before.result.advances.now) t) (sym c.front_part-before.ensures.text)
-    (subst (λ (l : List ℕ). AreForEach (given_if c.args.form.is_measured l) (front_of (pars_of kept) c.front_border-front.result c.args.range.pos)) (sym c.front_part-before.ensures.advances) each)
+    c.args.range.pos c.args.range.count piece within c.front_border-front.result c.last_touched-last.result.end
+    c.front_border-front.ensures c.last_touched-last.ensures.end in
+    subst (λ (t : List ℕ). AreForEach (given_if c.args.form.is_measured c.front_part-before.result.advances.now) t) (sym (c.front_part-before.ensures.text kept c.get-first.ensures))
+    (subst (λ (l : List ℕ). AreForEach (given_if c.args.form.is_measured l) (front_of (pars_of kept) c.front_border-front.result c.args.range.pos)) (sym (c.front_part-before.ensures.advances kept c.get-first.ensures)) each)
 
 pub lay_out_joined-requires-clause-back : goal.lay_out_joined-requires-clause-back
 lay_out_joined-requires-clause-back g c =
@@ -88,10 +88,10 @@ lay_out_joined-requires-clause-back g c =
     let size : c.total_chars-len.result ≡ length (text_of kept) = c.total_chars-len.ensures ∙ sym (length-text kept) in
     let within : c.args.range.pos + c.args.range.count ≤ length (text_of kept) = omega (arith, size) in
     let each = back_each c.paragraphs_are_pieces.ensures c.lines_are_few.ensures c.args.engine.now c.args.form.width c.args.form.is_measured kept c.requires
-    c.args.range.pos c.args.range.count piece within c.front_border-front.result c.back_border-back.result
-    c.front_border-front.ensures c.back_border-back.ensures in
-    subst (λ (t : List ℕ). AreForEach (given_if c.args.form.is_measured c.back_part-after.result.advances.now) t) (sym (c.back_part-after.ensures.text _ refl))
-    (subst (λ (l : List ℕ). AreForEach (given_if c.args.form.is_measured l) (back_of (pars_of kept) c.back_border-back.result (c.args.range.pos + c.args.range.count))) (sym (c.back_part-after.ensures.advances _ refl)) each)
+    c.args.range.pos c.args.range.count piece within c.front_border-front.result c.last_touched-last.result.end
+    c.front_border-front.ensures c.last_touched-last.ensures.end in
+    subst (λ (t : List ℕ). AreForEach (given_if c.args.form.is_measured c.back_part-after.result.advances.now) t) (sym (c.back_part-after.ensures.text kept c.last_touched-last.ensures.kept _ refl))
+    (subst (λ (l : List ℕ). AreForEach (given_if c.args.form.is_measured l) (back_of (pars_of kept) c.last_touched-last.result.end (c.args.range.pos + c.args.range.count))) (sym (c.back_part-after.ensures.advances kept c.last_touched-last.ensures.kept _ refl)) each)
 
 pub returns-in-Err-clause-err : goal.returns-in-Err-clause-err
 returns-in-Err-clause-err g c =
@@ -101,18 +101,26 @@ returns-in-Err-clause-err g c =
     let within : c.args.range.pos + c.args.range.count ≤ length (text_of kept) = omega (arith, size) in
     let n : c.count.result ≡ length piece = count_from_yields_List c.chars.result c.count.result c.count.ensures.ran (YieldsList-from_chars c.args.piece.now c.utf8.piece cc) in
     let short : length (text_of kept) - c.args.range.count + length piece ≤ TEXT_LIMIT = omega (arith, size, n) in
-    let parts = ap₂ (λ xs ys. xs ++ (piece ++ ys)) c.front_part-before.ensures.text (c.back_part-after.ensures.text _ refl) in
-    let given = ap₂ (λ xs ys. given_if c.args.form.is_measured (xs ++ (replicate (length piece) 0 ++ ys))) c.front_part-before.ensures.advances (c.back_part-after.ensures.advances _ refl) in
+    let parts = ap₂ (λ xs ys. xs ++ (piece ++ ys)) (c.front_part-before.ensures.text kept c.get-first.ensures) (c.back_part-after.ensures.text kept c.last_touched-last.ensures.kept _ refl) in
+    let given = ap₂ (λ xs ys. given_if c.args.form.is_measured (xs ++ (replicate (length piece) 0 ++ ys))) (c.front_part-before.ensures.advances kept c.get-first.ensures) (c.back_part-after.ensures.advances kept c.last_touched-last.ensures.kept _ refl) in
     let f = c.front_border-front.ensures in
-    let b = c.back_border-back.ensures in
+    let b = c.last_touched-last.ensures.end in
     let law = c.paragraphs_are_pieces.ensures in
     let few = c.lines_are_few.ensures in
     let by = rules_of c.args.engine.now in
     let answer = subst (λ o. IsAnswerFor o c.in-Err.fault) (ap₂ (λ (a : Option (List ℕ)) (t : List ℕ). paragraphs_refusal (cut_by by) a t) given parts) c.in-Err.ensures.err in
     let counts = subst (λ t. IsCountedFor c.in-Err.fault (LaysOutAtMost (length t)) c.args.engine.now c.lay_out_joined.new.engine) parts c.in-Err.ensures.refused in
     EditsNot-by_region law few c.args.engine.now c.args.form.width c.args.form.is_measured kept c.requires c.args.range.pos c.args.range.count piece within
-    c.front_border-front.result c.back_border-back.result f b c.lay_out_joined.new.engine c.in-Err.fault short answer
+    c.front_border-front.result c.last_touched-last.result.end f b c.lay_out_joined.new.engine c.in-Err.fault short answer
     c.lay_out_joined.ensures.rules counts
+
+pub returns-in-Err-clause-memory : goal.returns-in-Err-clause-memory
+returns-in-Err-clause-memory g c wants =
+    let kept = g.S.ParagraphStore.items c.args.store.now in
+    let piece = chars c.args.piece.now in
+    let is : c.in-Err.fault ≡ NoMemory = ap (fault_in c.in-Err.fault) wants in
+    some_joined c.args.engine.now c.args.form.width c.args.form.is_measured kept c.requires c.front_part-before.result.text.now piece c.back_part-after.result.text.now _ _ _ _
+    (c.front_part-before.ensures.text kept c.get-first.ensures) (c.back_part-after.ensures.text kept c.last_touched-last.ensures.kept _ refl) (c.in-Err.ensures.memory (ap Err is))
 
 pub put-requires-clause-order : goal.put-requires-clause-order
 put-requires-clause-order g c =
@@ -121,8 +129,8 @@ put-requires-clause-order g c =
     let size : c.total_chars-len.result ≡ length (text_of kept) = c.total_chars-len.ensures ∙ sym (length-text kept) in
     let within : c.args.range.pos + c.args.range.count ≤ length (text_of kept) = omega (arith, size) in
     rise c.paragraphs_are_pieces.ensures c.lines_are_few.ensures c.args.engine.now c.args.form.width c.args.form.is_measured kept c.requires
-    c.args.range.pos c.args.range.count piece within c.front_border-front.result c.back_border-back.result
-    c.front_border-front.ensures c.back_border-back.ensures
+    c.args.range.pos c.args.range.count piece within c.front_border-front.result c.last_touched-last.result.end
+    c.front_border-front.ensures c.last_touched-last.ensures.end
 
 pub put-requires-clause-chars_fit : goal.put-requires-clause-chars_fit
 put-requires-clause-chars_fit g c =
@@ -132,14 +140,14 @@ put-requires-clause-chars_fit g c =
     let within : c.args.range.pos + c.args.range.count ≤ length (text_of kept) = omega (arith, size) in
     let n : c.count.result ≡ length piece = count_from_yields_List c.chars.result c.count.result c.count.ensures.ran (YieldsList-from_chars c.args.piece.now c.utf8.piece cc) in
     let short : length (text_of kept) - c.args.range.count + length piece ≤ TEXT_LIMIT = omega (arith, size, n) in
-    let parts = ap₂ (λ xs ys. xs ++ (piece ++ ys)) c.front_part-before.ensures.text (c.back_part-after.ensures.text _ refl) in
-    let given = ap₂ (λ xs ys. given_if c.args.form.is_measured (xs ++ (replicate (length piece) 0 ++ ys))) c.front_part-before.ensures.advances (c.back_part-after.ensures.advances _ refl) in
+    let parts = ap₂ (λ xs ys. xs ++ (piece ++ ys)) (c.front_part-before.ensures.text kept c.get-first.ensures) (c.back_part-after.ensures.text kept c.last_touched-last.ensures.kept _ refl) in
+    let given = ap₂ (λ xs ys. given_if c.args.form.is_measured (xs ++ (replicate (length piece) 0 ++ ys))) (c.front_part-before.ensures.advances kept c.get-first.ensures) (c.back_part-after.ensures.advances kept c.last_touched-last.ensures.kept _ refl) in
     let f = c.front_border-front.ensures in
-    let b = c.back_border-back.ensures in
+    let b = c.last_touched-last.ensures.end in
     let law = c.paragraphs_are_pieces.ensures in
     let few = c.lines_are_few.ensures in
     let laid = c.in-Ok.ensures.ok ∙ ap₂ (λ (a : Option (List ℕ)) (t : List ℕ). layouts_of (with_advances (rules_of c.args.engine.now) a) c.args.form.width t) given parts in
-    chars_fit law few c.args.engine.now c.args.form.width c.args.form.is_measured kept c.requires c.args.range.pos c.args.range.count piece within c.front_border-front.result c.back_border-back.result f b c.in-Ok.new.items laid short
+    chars_fit law few c.args.engine.now c.args.form.width c.args.form.is_measured kept c.requires c.args.range.pos c.args.range.count piece within c.front_border-front.result c.last_touched-last.result.end f b c.in-Ok.new.items laid short
 
 pub put-requires-clause-bytes_fit : goal.put-requires-clause-bytes_fit
 put-requires-clause-bytes_fit g c =
@@ -149,14 +157,14 @@ put-requires-clause-bytes_fit g c =
     let within : c.args.range.pos + c.args.range.count ≤ length (text_of kept) = omega (arith, size) in
     let n : c.count.result ≡ length piece = count_from_yields_List c.chars.result c.count.result c.count.ensures.ran (YieldsList-from_chars c.args.piece.now c.utf8.piece cc) in
     let short : length (text_of kept) - c.args.range.count + length piece ≤ TEXT_LIMIT = omega (arith, size, n) in
-    let parts = ap₂ (λ xs ys. xs ++ (piece ++ ys)) c.front_part-before.ensures.text (c.back_part-after.ensures.text _ refl) in
-    let given = ap₂ (λ xs ys. given_if c.args.form.is_measured (xs ++ (replicate (length piece) 0 ++ ys))) c.front_part-before.ensures.advances (c.back_part-after.ensures.advances _ refl) in
+    let parts = ap₂ (λ xs ys. xs ++ (piece ++ ys)) (c.front_part-before.ensures.text kept c.get-first.ensures) (c.back_part-after.ensures.text kept c.last_touched-last.ensures.kept _ refl) in
+    let given = ap₂ (λ xs ys. given_if c.args.form.is_measured (xs ++ (replicate (length piece) 0 ++ ys))) (c.front_part-before.ensures.advances kept c.get-first.ensures) (c.back_part-after.ensures.advances kept c.last_touched-last.ensures.kept _ refl) in
     let f = c.front_border-front.ensures in
-    let b = c.back_border-back.ensures in
+    let b = c.last_touched-last.ensures.end in
     let law = c.paragraphs_are_pieces.ensures in
     let few = c.lines_are_few.ensures in
     let laid = c.in-Ok.ensures.ok ∙ ap₂ (λ (a : Option (List ℕ)) (t : List ℕ). layouts_of (with_advances (rules_of c.args.engine.now) a) c.args.form.width t) given parts in
-    units_fit law few c.args.engine.now c.args.form.width c.args.form.is_measured kept c.requires c.args.range.pos c.args.range.count piece within c.front_border-front.result c.back_border-back.result f b c.in-Ok.new.items laid short len_utf8 utf8_few
+    units_fit law few c.args.engine.now c.args.form.width c.args.form.is_measured kept c.requires c.args.range.pos c.args.range.count piece within c.front_border-front.result c.last_touched-last.result.end f b c.in-Ok.new.items laid short len_utf8 utf8_few
 
 pub put-requires-clause-utf16_fit : goal.put-requires-clause-utf16_fit
 put-requires-clause-utf16_fit g c =
@@ -166,14 +174,14 @@ put-requires-clause-utf16_fit g c =
     let within : c.args.range.pos + c.args.range.count ≤ length (text_of kept) = omega (arith, size) in
     let n : c.count.result ≡ length piece = count_from_yields_List c.chars.result c.count.result c.count.ensures.ran (YieldsList-from_chars c.args.piece.now c.utf8.piece cc) in
     let short : length (text_of kept) - c.args.range.count + length piece ≤ TEXT_LIMIT = omega (arith, size, n) in
-    let parts = ap₂ (λ xs ys. xs ++ (piece ++ ys)) c.front_part-before.ensures.text (c.back_part-after.ensures.text _ refl) in
-    let given = ap₂ (λ xs ys. given_if c.args.form.is_measured (xs ++ (replicate (length piece) 0 ++ ys))) c.front_part-before.ensures.advances (c.back_part-after.ensures.advances _ refl) in
+    let parts = ap₂ (λ xs ys. xs ++ (piece ++ ys)) (c.front_part-before.ensures.text kept c.get-first.ensures) (c.back_part-after.ensures.text kept c.last_touched-last.ensures.kept _ refl) in
+    let given = ap₂ (λ xs ys. given_if c.args.form.is_measured (xs ++ (replicate (length piece) 0 ++ ys))) (c.front_part-before.ensures.advances kept c.get-first.ensures) (c.back_part-after.ensures.advances kept c.last_touched-last.ensures.kept _ refl) in
     let f = c.front_border-front.ensures in
-    let b = c.back_border-back.ensures in
+    let b = c.last_touched-last.ensures.end in
     let law = c.paragraphs_are_pieces.ensures in
     let few = c.lines_are_few.ensures in
     let laid = c.in-Ok.ensures.ok ∙ ap₂ (λ (a : Option (List ℕ)) (t : List ℕ). layouts_of (with_advances (rules_of c.args.engine.now) a) c.args.form.width t) given parts in
-    units_fit law few c.args.engine.now c.args.form.width c.args.form.is_measured kept c.requires c.args.range.pos c.args.range.count piece within c.front_border-front.result c.back_border-back.result f b c.in-Ok.new.items laid short len_utf16 utf16_few
+    units_fit law few c.args.engine.now c.args.form.width c.args.form.is_measured kept c.requires c.args.range.pos c.args.range.count piece within c.front_border-front.result c.last_touched-last.result.end f b c.in-Ok.new.items laid short len_utf16 utf16_few
 
 pub put-requires-clause-lines_fit : goal.put-requires-clause-lines_fit
 put-requires-clause-lines_fit g c =
@@ -183,14 +191,14 @@ put-requires-clause-lines_fit g c =
     let within : c.args.range.pos + c.args.range.count ≤ length (text_of kept) = omega (arith, size) in
     let n : c.count.result ≡ length piece = count_from_yields_List c.chars.result c.count.result c.count.ensures.ran (YieldsList-from_chars c.args.piece.now c.utf8.piece cc) in
     let short : length (text_of kept) - c.args.range.count + length piece ≤ TEXT_LIMIT = omega (arith, size, n) in
-    let parts = ap₂ (λ xs ys. xs ++ (piece ++ ys)) c.front_part-before.ensures.text (c.back_part-after.ensures.text _ refl) in
-    let given = ap₂ (λ xs ys. given_if c.args.form.is_measured (xs ++ (replicate (length piece) 0 ++ ys))) c.front_part-before.ensures.advances (c.back_part-after.ensures.advances _ refl) in
+    let parts = ap₂ (λ xs ys. xs ++ (piece ++ ys)) (c.front_part-before.ensures.text kept c.get-first.ensures) (c.back_part-after.ensures.text kept c.last_touched-last.ensures.kept _ refl) in
+    let given = ap₂ (λ xs ys. given_if c.args.form.is_measured (xs ++ (replicate (length piece) 0 ++ ys))) (c.front_part-before.ensures.advances kept c.get-first.ensures) (c.back_part-after.ensures.advances kept c.last_touched-last.ensures.kept _ refl) in
     let f = c.front_border-front.ensures in
-    let b = c.back_border-back.ensures in
+    let b = c.last_touched-last.ensures.end in
     let law = c.paragraphs_are_pieces.ensures in
     let few = c.lines_are_few.ensures in
     let laid = c.in-Ok.ensures.ok ∙ ap₂ (λ (a : Option (List ℕ)) (t : List ℕ). layouts_of (with_advances (rules_of c.args.engine.now) a) c.args.form.width t) given parts in
-    lines_fit law few c.args.engine.now c.args.form.width c.args.form.is_measured kept c.requires c.args.range.pos c.args.range.count piece within c.front_border-front.result c.back_border-back.result f b c.in-Ok.new.items laid short
+    lines_fit law few c.args.engine.now c.args.form.width c.args.form.is_measured kept c.requires c.args.range.pos c.args.range.count piece within c.front_border-front.result c.last_touched-last.result.end f b c.in-Ok.new.items laid short
 
 pub returns-clause-ok : goal.returns-clause-ok
 returns-clause-ok g c =
@@ -200,10 +208,10 @@ returns-clause-ok g c =
     let within : c.args.range.pos + c.args.range.count ≤ length (text_of kept) = omega (arith, size) in
     let n : c.count.result ≡ length piece = count_from_yields_List c.chars.result c.count.result c.count.ensures.ran (YieldsList-from_chars c.args.piece.now c.utf8.piece cc) in
     let short : length (text_of kept) - c.args.range.count + length piece ≤ TEXT_LIMIT = omega (arith, size, n) in
-    let parts = ap₂ (λ xs ys. xs ++ (piece ++ ys)) c.front_part-before.ensures.text (c.back_part-after.ensures.text _ refl) in
-    let given = ap₂ (λ xs ys. given_if c.args.form.is_measured (xs ++ (replicate (length piece) 0 ++ ys))) c.front_part-before.ensures.advances (c.back_part-after.ensures.advances _ refl) in
+    let parts = ap₂ (λ xs ys. xs ++ (piece ++ ys)) (c.front_part-before.ensures.text kept c.get-first.ensures) (c.back_part-after.ensures.text kept c.last_touched-last.ensures.kept _ refl) in
+    let given = ap₂ (λ xs ys. given_if c.args.form.is_measured (xs ++ (replicate (length piece) 0 ++ ys))) (c.front_part-before.ensures.advances kept c.get-first.ensures) (c.back_part-after.ensures.advances kept c.last_touched-last.ensures.kept _ refl) in
     let f = c.front_border-front.ensures in
-    let b = c.back_border-back.ensures in
+    let b = c.last_touched-last.ensures.end in
     let law = c.paragraphs_are_pieces.ensures in
     let few = c.lines_are_few.ensures in
     let by = rules_of c.args.engine.now in
@@ -215,7 +223,7 @@ returns-clause-ok g c =
     (state_of c.lay_out_joined.new.engine c.args.form.width c.args.form.is_measured ks)) c.put.result _ _ _
     c.put.ensures.ok c.put.ensures.damage
     (Edits-after law few c.args.engine.now c.args.form.width c.args.form.is_measured kept c.requires c.args.range.pos c.args.range.count piece within
-    c.front_border-front.result c.back_border-back.result f b c.in-Ok.new.items laid short c.lay_out_joined.new.engine
+    c.front_border-front.result c.last_touched-last.result.end f b c.in-Ok.new.items laid short c.lay_out_joined.new.engine
     allowed c.lay_out_joined.ensures.rules counts))
 
 pub returns-clause-err : goal.returns-clause-err
@@ -226,10 +234,10 @@ returns-clause-err g c =
     let within : c.args.range.pos + c.args.range.count ≤ length (text_of kept) = omega (arith, size) in
     let n : c.count.result ≡ length piece = count_from_yields_List c.chars.result c.count.result c.count.ensures.ran (YieldsList-from_chars c.args.piece.now c.utf8.piece cc) in
     let short : length (text_of kept) - c.args.range.count + length piece ≤ TEXT_LIMIT = omega (arith, size, n) in
-    let parts = ap₂ (λ xs ys. xs ++ (piece ++ ys)) c.front_part-before.ensures.text (c.back_part-after.ensures.text _ refl) in
-    let given = ap₂ (λ xs ys. given_if c.args.form.is_measured (xs ++ (replicate (length piece) 0 ++ ys))) c.front_part-before.ensures.advances (c.back_part-after.ensures.advances _ refl) in
+    let parts = ap₂ (λ xs ys. xs ++ (piece ++ ys)) (c.front_part-before.ensures.text kept c.get-first.ensures) (c.back_part-after.ensures.text kept c.last_touched-last.ensures.kept _ refl) in
+    let given = ap₂ (λ xs ys. given_if c.args.form.is_measured (xs ++ (replicate (length piece) 0 ++ ys))) (c.front_part-before.ensures.advances kept c.get-first.ensures) (c.back_part-after.ensures.advances kept c.last_touched-last.ensures.kept _ refl) in
     let f = c.front_border-front.ensures in
-    let b = c.back_border-back.ensures in
+    let b = c.last_touched-last.ensures.end in
     let law = c.paragraphs_are_pieces.ensures in
     let few = c.lines_are_few.ensures in
     let by = rules_of c.args.engine.now in
@@ -240,7 +248,7 @@ returns-clause-err g c =
     (state_of c.lay_out_joined.new.engine c.args.form.width c.args.form.is_measured ks)) c.put.result _ _
     c.put.ensures.err c.put.ensures.fault
     (EditsNot-by_region law few c.args.engine.now c.args.form.width c.args.form.is_measured kept c.requires c.args.range.pos c.args.range.count piece within
-    c.front_border-front.result c.back_border-back.result f b c.lay_out_joined.new.engine NoMemory short
+    c.front_border-front.result c.last_touched-last.result.end f b c.lay_out_joined.new.engine NoMemory short
     allowed c.lay_out_joined.ensures.rules counts))
 
 pub returns-clause-memory : goal.returns-clause-memory
@@ -248,5 +256,5 @@ returns-clause-memory g c wants =
     let kept = g.S.ParagraphStore.items c.args.store.now in
     let piece = chars c.args.piece.now in
     let some = of_err c.put.result NoMemory c.put.ensures.memory wants in
-    some_put c.args.engine.now c.args.form.width c.args.form.is_measured kept c.requires c.front_part-before.result.text.now piece c.back_part-after.result.text.now _ _ _ _ c.front_part-before.ensures.text (c.back_part-after.ensures.text _ refl)
-    (with_advances (rules_of c.args.engine.now) _) c.front_border-front.result.index c.back_border-back.result.index c.in-Ok.new.items c.back_border-back.ensures.border_is.within c.in-Ok.ensures.ok some
+    some_put c.args.engine.now c.args.form.width c.args.form.is_measured kept c.requires c.front_part-before.result.text.now piece c.back_part-after.result.text.now _ _ _ _ (c.front_part-before.ensures.text kept c.get-first.ensures) (c.back_part-after.ensures.text kept c.last_touched-last.ensures.kept _ refl)
+    (with_advances (rules_of c.args.engine.now) _) c.front_border-front.result.index c.last_touched-last.result.end.index c.in-Ok.new.items c.last_touched-last.ensures.end.border_is.within c.in-Ok.ensures.ok some

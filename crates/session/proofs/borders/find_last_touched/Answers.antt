@@ -1,9 +1,10 @@
-use Rattle.std.proofs.Common.{arith}
+use Rattle.std.proofs.Common.{◌≡◌, ◌+◌, ◌-◌, ap, ◌∙◌, arith}
+use Rattle.std.specs.List.{slice_get}
 use Rattle.session.proofs.BorderLemmas.{to_within, chars_next, lines_next, found_some, chars_of, IsBackBorder-found, IsBackBorder-end}
-use Rattle.session.proofs.borders.back_border.Goals as goal
+use Rattle.session.proofs.borders.find_last_touched.Goals as goal
 
-pub returns-then-to-chars : goal.returns-then-to-chars
-returns-then-to-chars g c =
+pub returns-then-to-chars-clause-end : goal.returns-then-to-chars-clause-end
+returns-then-to-chars-clause-end g c =
     IsBackBorder-end (g.S.ParagraphStore.items c.args.store.now) c.args.to c.count-count.result c.total_chars-chars.result c.total_lines-lines.result
     c.count-count.ensures c.total_chars-chars.ensures c.total_lines-lines.ensures c.if-to-chars.true
 
@@ -28,7 +29,15 @@ pub unreachable-requires : goal.unreachable-requires
 unreachable-requires g c =
     found_some chars_of (g.S.ParagraphStore.items c.args.store.now) c.args.to c.find_char-found.result c.find_char-found.ensures.found c.in-None.ensures
 
-pub returns : goal.returns
-returns g c =
+pub returns-clause-end : goal.returns-clause-end
+returns-clause-end g c =
     rw (c.chars.ensures, c.lines.ensures)
     (IsBackBorder-found (g.S.ParagraphStore.items c.args.store.now) c.args.to c.find_char-found.result c.in-Some.kept.now c.in-Some.ensures c.find_char-found.ensures.found)
+
+pub returns-then-to-chars-clause-kept : goal.returns-then-to-chars-clause-kept
+returns-then-to-chars-clause-kept g c = c.get.ensures ∙ ap (slice_get (g.S.ParagraphStore.items c.args.store.now)) c.saturating_sub.ensures
+
+pub returns-clause-kept : goal.returns-clause-kept
+returns-clause-kept g c =
+    let at : c.find_char-found.result.index ≡ c.find_char-found.result.index + 1 - 1 = omega arith in
+    c.in-Some.ensures ∙ ap (slice_get (g.S.ParagraphStore.items c.args.store.now)) at
