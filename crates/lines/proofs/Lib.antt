@@ -7,6 +7,7 @@ mod BesideLemmas
 mod CellLemmas
 pub mod ClusterLemmas
 pub mod ColumnCacheLemmas
+pub mod ColumnSumLemmas
 pub mod ColumnLemmas
 mod CountingLemmas
 pub mod EndLemmas

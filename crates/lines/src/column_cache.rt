@@ -4,12 +4,15 @@ ghost use Rattle.lines.specs.CharInfos.{columns_of};
 ghost use Rattle.lines.specs.ColumnCache.{is_right};
 
 use crate::reserve::reserve;
-use crate::widths::columns;
+use crate::widths::{are_common, are_printable, columns};
 use std::alloc::{AllocError, Global};
 use std::marker::Model;
 
 // The number of entries. Characters whose code points differ by a multiple of this number share an entry.
 const ENTRIES: usize = 1_024;
+
+// The number of characters that are tested together.
+const AT_ONCE: usize = 8;
 
 /// A cache of the widths of characters, in columns. An entry is a code point times 4, plus the columns of the
 /// character. A new entry is 0, which says that U+0000 has no columns.
@@ -36,7 +39,7 @@ impl Model for ColumnCache {
 }
 
 impl ColumnCache {
-    ghost use Rattle.std.specs.Prelude.{◌≡◌, ◌≤◌, length, map, sum};
+    ghost use Rattle.std.specs.Prelude.{◌≡◌, ◌*◌, ◌≤◌, length, map, sum};
     ghost use Rattle.lines.specs.CharInfos.{columns_of};
     ghost use Rattle.lines.specs.declared.engine.TheConstants.{PARAGRAPH_LIMIT};
 
@@ -74,6 +77,38 @@ impl ColumnCache {
     pub(crate) fn sum(&mut self, text: &[char]) -> u32
         requires { length text.now ≤ PARAGRAPH_LIMIT }
         ensures { result ≡ sum (map columns_of text.now) }
+    {
+        let mut rest = text;
+        let mut sum = 0;
+        while rest.len() >= AT_ONCE {
+            let (group, after) = rest.split_at(AT_ONCE);
+            sum += self.sum_of_group(group);
+            rest = after;
+        }
+        sum + self.sum_of_each(rest)
+    }
+
+    // Implements `sum` for a group of characters. Looks up no columns if all of them are known to be 1.
+    #[inline(always)] // so that the loops over a group know its length
+    fn sum_of_group(&mut self, group: &[char]) -> u32
+        requires { length group.now ≡ AT_ONCE }
+        ensures sum { result ≡ sum (map columns_of group.now) }
+        ensures most { result ≤ 255 * length group.now }
+    {
+        if are_printable(group) {
+            return group.len() as u32;
+        }
+        if are_common(group) {
+            return group.len() as u32;
+        }
+        self.sum_of_each(group)
+    }
+
+    // Implements `sum`, one character after another.
+    fn sum_of_each(&mut self, text: &[char]) -> u32
+        requires { length text.now ≤ PARAGRAPH_LIMIT }
+        ensures sum { result ≡ sum (map columns_of text.now) }
+        ensures most { result ≤ 255 * length text.now }
     {
         let mut sum = 0;
         for c in text {

@@ -18,7 +18,7 @@ use Rattle.session.specs.Sessions.{IsAnswerFor}
 use Rattle.session.specs.declared.edits.EditFault.{EditFault}
 use Rattle.session.specs.declared.edits.EditFault.TheVariants.{WidthOutOfRange, TextTooLong, ParagraphTooLong, NoMemory}
 use Rattle.session.proofs.AdvanceLemmas.{advances-layouts, first_back, first_each, first_fits, first_front}
-use Rattle.session.proofs.JoinedLemmas.{layouts_more}
+use Rattle.session.proofs.JoinedLemmas.{front_all, layouts_more}
 use Rattle.session.proofs.UnitLemmas.{few_in_all, utf8_few, utf16_few, AreFew}
 use Rattle.session.proofs.BorderLemmas.{chars_of, lines_of}
 use Rattle.session.proofs.EditLemmas.{LinesAreFew, chars-laid, few-laid, text-layouts, IsWholeLayout-same}
@@ -121,6 +121,14 @@ TotalsFit-front front more all parts fits = record {
   bytes = sum-front (units_of Utf8) front more all parts fits.bytes;
   utf16 = sum-front (units_of Utf16) front more all parts fits.utf16;
 }
+
+-- the layouts of a text that is one paragraph
+pub layouts_one : (is_measured : Bool) (rules : Rules) (width : ℕ) (text : List ℕ) → paragraphs (cut_by rules) text ≡ text ∷ []
+    → layouts_from rules width (first_advances is_measured (length text)) (paragraphs (cut_by rules) text)
+    ≡ layout_of (with_advances rules (first_advances is_measured (length text))) width text ∷ []
+layouts_one is_measured rules width text one =
+    let first = first_advances is_measured (length text) in
+    ap (layouts_from rules width first) one ∙ ap (λ (a : Option (List ℕ)). layout_of (with_advances rules a) width text ∷ []) (front_all text first (first_each is_measured text))
 
 -- if the layouts in a store, those that are not in it yet and those of the remaining text are all layouts, this
 -- stays true after one more paragraph is laid out

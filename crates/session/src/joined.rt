@@ -216,8 +216,8 @@ fn lay_out_measured(
     Kept::new(alloc, laid)
 }
 
-// Lays out one paragraph, whose text and advances move into the layout.
-fn lay_out_owned(
+/// Lays out one paragraph, whose text and advances move into the layout.
+pub fn lay_out_owned(
     alloc: Global,
     engine: &mut Engine,
     text: Vec<char>,

@@ -1,6 +1,6 @@
 //! Lays out the paragraphs of a text that a session is opened on. Each paragraph is decoded on its own, and
 //! the layouts are put into the store in batches. So besides the store, opening needs little memory.
-ghost use Rattle.std.specs.Prelude.{◌≡◌, ◌<◌, ◌∷◌, ◌++◌, ℕ, true, length, nat_lt};
+ghost use Rattle.std.specs.Prelude.{◌≡◌, ◌<◌, ◌∷◌, ◌++◌, ℕ, [], true, length, nat_lt};
 ghost use Rattle.std.specs.Prelude.{List, IfOk, IsUtf8, OnOk};
 ghost use Rattle.std.specs.Str.{chars};
 ghost use Rattle.bidi.specs.Cuts.{paragraphs};
@@ -12,7 +12,7 @@ ghost use Rattle.session.specs.Kept.{first_advances, layouts_of, TotalsFit};
 ghost use Rattle.session.specs.declared.edits.TheConstants.{TEXT_LIMIT};
 
 use crate::edits::TEXT_LIMIT;
-use crate::joined::{Form, Part, lay_out_one};
+use crate::joined::{Form, Part, lay_out_one, lay_out_owned};
 use crate::kept::Kept;
 use bidi::paragraphs_are_pieces;
 use lines::Engine;
@@ -55,6 +55,31 @@ fn split_first<'a>(engine: &Engine, text: &'a str) -> (&'a str, &'a str)
     match engine.first_cut_in_text(&[], text) {
         Some(end) => text.split_at(end),
         None => (text, ""),
+    }
+}
+
+// Copies a list if much of its capacity is unused. Shrinking it would split its memory, so that a list of the
+// same length could not use this memory again.
+fn fitted(alloc: Global, list: Vec<char>) -> Result<Vec<char>, AllocError>
+    ensures { IfOk result (λ fitted. fitted.items ≡ list.items) }
+{
+    if list.capacity() - list.len() > list.len() / 8 + 16 {
+        return Vec::from_slice(alloc, &list);
+    }
+    Ok(list)
+}
+
+// Returns whether a text is one paragraph.
+fn is_one(engine: &Engine, text: &str) -> bool
+    ensures { result ≡ true
+        → paragraphs (cut_by (rules_of engine.now)) (chars text.now) ≡ chars text.now ∷ [] }
+{
+    if text.is_empty() {
+        return false;
+    }
+    match engine.first_cut_in_text(&[], text) {
+        Some(_) => false,
+        None => true,
     }
 }
 
@@ -119,6 +144,54 @@ fn lay_out_new(
     lay_out_one(alloc, engine, &part, form)
 }
 
+// Does the same as `lay_out_new` with characters and advances that move into the layout.
+fn lay_out_moved(
+    alloc: Global,
+    engine: &mut Engine,
+    text: Vec<char>,
+    advances: Vec<u32>,
+    form: Form,
+) -> Result<Kept, AllocError>
+    requires paragraph { IsParagraph (rules_of engine.old) text.items }
+    requires width { 0 < form.width }
+    requires zeros { given_if form.is_measured advances.items
+        ≡ first_advances form.is_measured (length text.items) }
+    ensures ok { IfOk result (λ kept. kept ≡ layout_of (with_advances (rules_of engine.old)
+        (first_advances form.is_measured (length text.items))) form.width text.items) }
+    ensures rules { SameRules engine.old engine.new }
+    ensures counts { LaysOutAtMost (length text.items) engine.old engine.new }
+{
+    lay_out_owned(alloc, engine, text, advances, form)
+}
+
+// Lays out a text that is one paragraph, and appends its layout to a store. If the text is measured, all
+// advances are 0. The characters move into the layout.
+fn append_one<S: ParagraphStore<Kept>>(
+    alloc: Global,
+    engine: &mut Engine,
+    store: &mut S,
+    text: &str,
+    form: Form,
+) -> Result<(), AllocError>
+    requires paragraph { IsParagraph (rules_of engine.old) (chars text.now) }
+    requires width { 0 < form.width }
+    requires fit { TotalsFit (S.items store.old ++ layout_of (with_advances (rules_of engine.old)
+        (first_advances form.is_measured (length (chars text.now)))) form.width (chars text.now) ∷ []) }
+    ensures ok { OnOk result (S.items store.new ≡ S.items store.old
+        ++ layout_of (with_advances (rules_of engine.old)
+        (first_advances form.is_measured (length (chars text.now)))) form.width (chars text.now) ∷ []) }
+    ensures rules { SameRules engine.old engine.new }
+    ensures counts { LaysOutAtMost (length (chars text.now)) engine.old engine.new }
+{
+    let list = decoded(Vec::new(alloc), text)?;
+    let characters = fitted(alloc, list)?;
+    let advances = zeros(Vec::new(alloc), form.is_measured, characters.len())?;
+    let kept = lay_out_moved(alloc, engine, characters, advances, form)?;
+    let mut new = Vec::with_capacity(alloc, 1)?;
+    new.push(kept)?;
+    append(store, new)
+}
+
 /// Lays out each paragraph of a text once, and appends the layouts to a store. No paragraph may be too long.
 /// If the text is measured, all advances are 0.
 pub fn append_all<S: ParagraphStore<Kept>>(
@@ -140,6 +213,9 @@ pub fn append_all<S: ParagraphStore<Kept>>(
 {
     // By this theorem, the text between two boundaries is one paragraph.
     paragraphs_are_pieces();
+    if is_one(engine, text) {
+        return append_one(alloc, engine, store, text, form);
+    }
     let mut new = Vec::new(alloc);
     let mut list = Vec::new(alloc);
     let mut advances = Vec::new(alloc);

@@ -1,6 +1,6 @@
 //! Balanced trees. Each node stores the sums of all items in its subtree.
 ghost use Rattle.std.specs.Prelude.{◌≡◌, ◌+◌, ◌≤◌, length, sum_by, ◌∷◌, ◌++◌, max};
-ghost use Rattle.std.specs.Prelude.{IfOk, IfErr, MatchOption};
+ghost use Rattle.std.specs.Prelude.{true, IfOk, IfErr, MatchOption};
 ghost use Rattle.store.specs.Subtrees.{Fits, IsSummed};
 ghost use Rattle.store.specs.Sums.{measure, AreSums, SumsFit};
 ghost use Rattle.store.specs.Trees.{Empty, Fork, height, in_order, IsBalanced};
@@ -95,6 +95,16 @@ impl<P: Measured> Subtree<P> {
         match &self.root {
             None => 0,
             Some(node) => node.count,
+        }
+    }
+
+    /// Returns whether there are no items.
+    pub(crate) fn is_empty(&self) -> bool
+        ensures { result ≡ true → self.now ≡ Empty }
+    {
+        match &self.root {
+            None => true,
+            Some(_) => false,
         }
     }
 

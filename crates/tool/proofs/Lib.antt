@@ -6,4 +6,5 @@ pub mod ScriptLemmas
 pub mod ScriptStepLemmas
 pub mod StartLemmas
 pub mod WorkLemmas
+pub mod ReasonLemmas
 mod WorkedRows

@@ -212,7 +212,8 @@ fn push_explicit(line: &mut Vec<u8>, reason: &LevelReason) -> Result<(), AllocEr
 {
     push_bidi(line, "override_class", reason.explicit.overriding)?;
     push_level_number(line, "embedding_level", reason.explicit.level)?;
-    push_level_number(line, "level", reason.level)
+    push_level_number(line, "level", reason.level)?;
+    Ok(())
 }
 
 // Appends the ends of the sequence, and which cases of N0 to N2 apply.
@@ -259,7 +260,8 @@ fn push_removed(
     push_position(line, "left", start, reason.level_from)?;
     push(line, " right none")?;
     push_explicit(line, reason)?;
-    push(line, " sos none eos none bracket_case none neutral none")
+    push(line, " sos none eos none bracket_case none neutral none")?;
+    Ok(())
 }
 
 fn push_level(line: &mut Vec<u8>, start: usize, reason: &LevelReason) -> Result<(), AllocError>

@@ -1,14 +1,34 @@
-use Rattle.std.proofs.Common.{◌≡◌, ◌∷◌, ◌++◌, ℕ, None, ◌+◌, ◌≤◌, List, length, refl, sym, ap, ap₂, subst, ◌∙◌, arith}
+use Rattle.std.proofs.Common.{◌≡◌, ◌∷◌, ◌++◌, [], ℕ, None, ◌+◌, ◌≤◌, List, length, refl, sym, ap, ap₂, subst, ◌∙◌, arith}
 use Rattle.std.specs.Result.{OnOk}
 use Rattle.std.specs.Str.{chars}
 use Rattle.std.proofs.lemmas.List.{append-nil}
 use Rattle.bidi.specs.Cuts.{paragraphs}
 use Rattle.lines.specs.Engine.{rules_of, RisesBy}
 use Rattle.lines.specs.Layouts.{cut_by, layout_of, with_advances, IsParagraph}
-use Rattle.session.specs.Kept.{first_advances, layouts_of}
+use Rattle.session.specs.Kept.{first_advances, layouts_of, TotalsFit}
 use Rattle.session.proofs.JoinedLemmas.{first_paragraph, layouts_none, others_within, split_length, text_none, text_parts}
-use Rattle.session.proofs.OpenLemmas.{layouts_stored, TotalsFit-front}
+use Rattle.session.proofs.OpenLemmas.{layouts_one, layouts_stored, TotalsFit-front}
 use Rattle.session.proofs.opening.append_all.Goals as goal
+
+-- a text that is one paragraph is followed by no text
+pub append_one-requires-clause-paragraph : goal.append_one-requires-clause-paragraph
+append_one-requires-clause-paragraph g c =
+    let whole = chars c.args.text.now in
+    first_paragraph c.paragraphs_are_pieces.ensures (rules_of c.args.engine.now) whole whole [] (c.is_one.ensures c.if-is_one.true) c.requires.within
+
+pub append_one-requires-clause-fit : goal.append_one-requires-clause-fit
+append_one-requires-clause-fit g c =
+    let by = with_advances (rules_of c.args.engine.now) None in
+    let stored = g.S.ParagraphStore.items c.args.store.now in
+    let one = layouts_one c.args.form.is_measured by c.args.form.width (chars c.args.text.now) (c.is_one.ensures c.if-is_one.true) in
+    subst (λ ks. TotalsFit (stored ++ ks)) one c.requires.fit
+
+pub returns-then-is_one-clause-ok : goal.returns-then-is_one-clause-ok
+returns-then-is_one-clause-ok g c =
+    let by = with_advances (rules_of c.args.engine.now) None in
+    let stored = g.S.ParagraphStore.items c.args.store.now in
+    let one = layouts_one c.args.form.is_measured by c.args.form.width (chars c.args.text.now) (c.is_one.ensures c.if-is_one.true) in
+    subst (λ ks. OnOk c.append_one.result (g.S.ParagraphStore.items c.append_one.new.store ≡ stored ++ ks)) (sym one) c.append_one.ensures.ok
 
 pub loop-rest-init : goal.loop-rest-init
 loop-rest-init g c =
