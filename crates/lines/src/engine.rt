@@ -28,7 +28,8 @@ use crate::reflow::ReflowScratch;
 use crate::separators::ends_line;
 use crate::workspace::{Workspace, ready};
 use bidi::{
-    LevelReason, base_level, base_level_in_text, first_cut, first_cut_in_text, is_cut, level_reasons,
+    LevelReason, base_level, base_level_in_text, first_cut, first_cut_in_text, is_cut,
+    level_reasons,
 };
 use breaks::{Mark, Reason, marks_are_as_many, paragraphs_end_at_must, reasons};
 use device::Sink;

@@ -242,11 +242,7 @@ fn push_kept(
 }
 
 // Appends the reason for the level of a character that X9 removes.
-fn push_removed(
-    line: &mut Vec<u8>,
-    start: usize,
-    reason: &LevelReason,
-) -> Result<(), AllocError>
+fn push_removed(line: &mut Vec<u8>, start: usize, reason: &LevelReason) -> Result<(), AllocError>
     ensures { OnOk result (line.new.items ≡ line.old.items ++ removed_text start reason.now) }
 {
     push_class(line, "class", reason.class)?;

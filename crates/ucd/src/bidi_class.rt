@@ -71,7 +71,9 @@ impl BidiClass {
         if let Some(class) = frequent(name) {
             return Some(class);
         }
-        ALL.iter().copied().find(|class| class.name().as_bytes() == name)
+        ALL.iter()
+            .copied()
+            .find(|class| class.name().as_bytes() == name)
     }
 
     /// Returns the class at an index in the order of the enum.

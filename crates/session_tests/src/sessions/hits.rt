@@ -259,10 +259,12 @@ fn is_reason<S: ParagraphStore<Kept>>(
     renew(session, text, 80)?;
     match (reasons(session, pos), wanted) {
         (Ok(Some(reasons)), Some((start, level, wanted_partner, rule))) => {
-            Ok((reasons.paragraph_start == start)
-                & (reasons.level.level == level)
-                & (partner(&reasons) == wanted_partner)
-                & (reasons.mark.rule == rule))
+            Ok(
+                (reasons.paragraph_start == start)
+                    & (reasons.level.level == level)
+                    & (partner(&reasons) == wanted_partner)
+                    & (reasons.mark.rule == rule),
+            )
         }
         (Ok(None), None) => Ok(true),
         _ => Ok(false),
@@ -298,6 +300,8 @@ pub(super) fn check_hits<S: ParagraphStore<Kept> + Drop, T: ParagraphStore<Kept>
 }
 
 #[test]
-fn hits_columns_clusters_words_reasons_and_carets_are_as_listed(rt: HostRuntime) -> Result<(), Fail> {
+fn hits_columns_clusters_words_reasons_and_carets_are_as_listed(
+    rt: HostRuntime,
+) -> Result<(), Fail> {
     check_in_tree(&rt, rt.alloc(), Check::Hits)
 }
