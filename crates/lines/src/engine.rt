@@ -602,7 +602,8 @@ impl Engine {
         ensures len { IfOk result (λ list. length list.items ≡ length text.now) }
         ensures memory { OnErr result (0 < length text.now) }
     {
-        level_reasons(alloc, &self.tables, text, self.options.base)
+        let reasons = level_reasons(alloc, &self.tables, text, self.options.base)?;
+        Ok(reasons)
     }
 
     /// Returns the rule that decides the break mark after each character of one paragraph (UAX #14), and what
@@ -616,7 +617,8 @@ impl Engine {
         ensures len { IfOk result (λ list. length list.items ≡ length text.now) }
         ensures memory { OnErr result (0 < length text.now) }
     {
-        reasons(alloc, &self.tables, text, self.options.whole_numbers)
+        let reasons = reasons(alloc, &self.tables, text, self.options.whole_numbers)?;
+        Ok(reasons)
     }
 
     // Implements `find_base` for UTF-8 text.
