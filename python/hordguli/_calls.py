@@ -123,7 +123,7 @@ def uint32s(given: Iterable[SupportsIndex], name: str) -> "array[int]":
 
 
 def advances_of(measure: Measure, paragraph: ParagraphText) -> bytes:
-    """Calls a function `measure`. Returns the advances as an array of `uint32_t`, or raises `ValueError` for anything else."""
+    """Calls a function `measure`. Returns its advances as an array of `uint32_t`. Raises `ValueError` if it returns anything else."""
     given, count = measure(paragraph), len(paragraph.text)
     if type(given) is list:
         found = given

@@ -205,7 +205,7 @@ def table(explained: Explanation) -> str:
 
 
 def _joined(row: Any, widths: list[int], more: int) -> str:
-    """Returns a row of the table. Its character needs `more` places of the string than it has columns."""
+    """Returns a row of the table. `more` is the length of the character's cell minus its columns: 1 for a mark, -1 for a wide character."""
     padded = [cell.ljust(width + more * (at == 1)) for at, (cell, width) in enumerate(zip(row, widths))]
     return "  ".join(padded).rstrip()
 

@@ -421,7 +421,7 @@ class BreakReason(NamedTuple):
 class ExplainedCharacter(NamedTuple):
     """A character of an `Explanation`.
 
-    `position`: its index in the text. `character`, `code_point`, `name`: which it is, such as `"("`, `"U+0028"`, `"LEFT PARENTHESIS"`.
+    `position`: its index in the text. `character`, `code_point`, `name`: such as `"("`, `"U+0028"`, `"LEFT PARENTHESIS"`.
     `mirror` to `bracket`: its properties, as in `Character`. `level`: its level before L1. `break_mark`: the break mark after it. `line`:
     its line. `line_level`: its level after L1. `visual`: its visual position in the line. These three are `None` if the character is
     not shown. `why`: what rules of UAX #9 change at it, as sentences in the order of the rules. `break_why`: the rule of UAX #14 that

@@ -809,7 +809,7 @@ static void caret_is(int at, size_t pos, uint32_t side, size_t line, size_t colu
     holds(caret.level == level && caret.zero == 0, __FILE__, at, "the level of the caret");
 }
 
-/* The stops of a caret, in the form `3 B` or `3 A`. */
+/* A stop of the caret: the edge before ('B') or after ('A') a position, and its column. */
 typedef struct stop {
     size_t pos;
     char side; /* 0 ends a list */

@@ -9,9 +9,9 @@
  *   - 1 if there is a break opportunity here where Pango's line starts, else 0
  *   - 1 if there is a break opportunity in Pango where our line starts, else 0
  *
- * The last line is `times`, six times in nanoseconds for all texts together, and the number of texts for which shaping
- * gives Pango's advances, before and after the edit. Each time is the minimum of several runs. An edit inserts a letter
- * in the middle and deletes it. The times are for:
+ * The last line begins with `times`. Then come six times in nanoseconds, each for all texts together, and the number of
+ * texts for which shaping gives Pango's advances, before and after the edit. Each time is the minimum of several runs.
+ * An edit inserts a letter in the middle and deletes it. The times are for:
  *   - two changes of the width here, and in Pango until the lines are known
  *   - an edit here, with advances that are known
  *   - the same, but HarfBuzz first shapes, with Pango's fonts, the text between the spaces around the changed

@@ -469,7 +469,7 @@ def page(text, styles, its, whole):
 
 
 def printed(texts, its):
-    """Returns what the command prints for texts, which are bytes."""
+    """Returns what the command prints for a list of texts, each given as bytes."""
     output, text = "", ""
     for data in texts:
         text, styles = styled(decoded(data), its.escapes)
