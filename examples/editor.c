@@ -273,7 +273,7 @@ static int next_byte(void) {
         if (resized) return -1;
         got = read(STDIN_FILENO, &byte, 1);
         if (got == 1) return byte;
-        if (got == 0 || errno != EINTR) leave("no keys any more");
+        if (got == 0 || errno != EINTR) leave("end of input");
     }
 }
 

@@ -114,7 +114,8 @@ class Field(Gtk.DrawingArea):
     # ---- Keys ----
 
     def replace(self, start, end, content, side=Side.AFTER):
-        """Replaces a range. The caret is then on this side of the position after `content`, or before it where a paragraph starts."""
+        """Replaces a range. The caret is then on `side` of the position after `content`, or before it where
+        a paragraph starts."""
         self.session.replace(start, end - start, content)
         place = start + len(content)
         is_start = place == 0 or self.session.text(place - 1, 1) == "\n"

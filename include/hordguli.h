@@ -188,15 +188,14 @@ const char *hordguli_status_text(hordguli_status status);
 /* ---- Version ---- */
 
 /* The version of this header. A release that adds functions, options or statuses raises the minor version. `Since` in a
- * comment is the first version that has the function. 0.6 is the next release. Until then, this header declares the
- * functions of 0.6, but has the version 0.5.0. From 0.6.0 on, a program can test for them:
+ * comment is the first version that has the function. A program can test for the functions of 0.6:
  *
  *     #if HORDGULI_VERSION_MAJOR > 0 || HORDGULI_VERSION_MINOR >= 6 */
 #define HORDGULI_VERSION_MAJOR 0
-#define HORDGULI_VERSION_MINOR 5
+#define HORDGULI_VERSION_MINOR 6
 #define HORDGULI_VERSION_PATCH 0
 
-/* Returns the version of the library, such as "0.5.0". */
+/* Returns the version of the library, such as "0.6.0". */
 const char *hordguli_version(void);
 
 /* Returns "15.0", the Unicode version of tables that `hordguli_tables_open_builtin`, `hordguli_tables_open_folder` and

@@ -14,7 +14,7 @@ enum { SIZE = 1 << 16 };
 
 static unsigned char in[SIZE], out[SIZE];
 static size_t filled, left;
-static uint64_t next_states[256]; /* for each byte, the next states; that of a state is in the 6 bits from bit `state` on */
+static uint64_t next_states[256]; /* for each byte, the next state after each `state`: the 6 bits from bit `state` on */
 
 static void fail(const char *what) {
     fprintf(stderr, "bound: %s\n", what);

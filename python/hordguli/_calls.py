@@ -58,7 +58,7 @@ class Handle:
             return function(self.pointer, *arguments)
 
     def run_refusing(self, call: Callable[..., Result], *arguments: Any) -> Result:
-        """Makes a call that must not use the handle: that raises `RuntimeError`. Other threads that use it wait."""
+        """Makes a call. Using the handle during this call raises `RuntimeError`, but other threads wait."""
         with self.lock:
             self._is_refused = True
             try:

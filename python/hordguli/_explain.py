@@ -265,8 +265,8 @@ def _layouts(text: str, options: Options, tables: Optional[Tables]) -> dict[str,
     """Returns the layouts of all WIDTHS for a page.
 
     - `layouts`: a width, and the numbers of the lines there and at all widths up to that of the next layout.
-    - `lines`: the different lines: start, length, columns, base level, the number of its runs, and its visual order if that is not
-      the one of the runs.
+    - `lines`: the different lines: start, length, columns, base level, the number of its runs, and its visual
+      order if it differs from that of the runs.
     - `runs`: the different lists of runs, as start, length and level of each.
     """
     layouts: list[Any] = []

@@ -16,7 +16,7 @@ _TAB_OR_MORE = re.compile("\t|[^\t]+")
 class Options(enum.IntFlag):
     """Options of a layout: one base direction and any of the others, combined with `|`.
 
-    `WEAK_LTR`, `WEAK_RTL`: a paragraph has the direction of its first strong character, else the one named.
+    `WEAK_LTR`, `WEAK_RTL`: a paragraph has the direction of its first strong character, else the direction named.
     `LTR`, `RTL`: all paragraphs have this direction.
     Without a direction, it is `WEAK_LTR`. Two different directions raise `ValueError` in each call that they are passed to.
     Directions share bits, so use `Options.LTR in options`, not `&`, to find out which one is set.
@@ -179,7 +179,8 @@ class Place(NamedTuple):
 
 
 class Caret(NamedTuple):
-    """Where to draw a caret: columns left of it, without padding. `level` is that of its character, or the base level."""
+    """Where to draw a caret. `column`: the columns left of it, without padding. `level`: of its character,
+    or the base level."""
 
     # from hordguli.h: hordguli_caret
     line: int

@@ -179,8 +179,8 @@ _NOUNS = {
     "CM": "combining mark", "SP": "space", "BK": "line separator", "CR": "carriage return", "LF": "line feed", "NL": "next line character",
     "AK": "aksara", "AP": "aksara", "AS": "aksara", "VF": "virama", "VI": "virama",
 }  # fmt: skip
-# What each rule says. In a sentence, {before} and {after} are what the base before the mark and the one after it are, {both} is what is
-# on both sides, and {behind} is the nearest base that is not a space. A rule with two sentences has the one of its mark first, no break.
+# What each rule says. {before} and {after} name the bases before and after the mark, {both} names both of them,
+# and {behind} names the nearest base that is not a space. Of two sentences, the first is for no break.
 _RULES = {
     "LB3": "the line ends with the paragraph",
     "LB4": "the line ends after {before}",

@@ -237,7 +237,7 @@ class Session:
         """Sets the advances of the characters from `pos` on, in a measured session, one for each of `advances`.
 
         Returns which lines were replaced: those of the paragraphs that have one of these characters. After an edit, set the
-        advances of all new paragraphs. From line `first_line` of the edit's damage on, its `old_lines` have then become the
+        advances of all new paragraphs. After both calls, the `old_lines` of the edit's damage have become the
         `new_lines` of this damage. Raises `NotMeasuredError` if the session is not measured, and `ValueError` if the advances of
         a paragraph would add up to more than 4,294,967,295.
 
@@ -408,7 +408,7 @@ class Session:
         return get_record(ChangedLines, self._call, library.hordguli_changed_lines)
 
     def _keep_changed(self) -> None:
-        """Keeps these lines in a session that measures. Its edits are two calls, so it keeps those of both."""
+        """Stores the lines that the last call changed, if the session measures. Its edits are two calls."""
         if self._measure is not None:
             self._changed = self._last_changed()
 
@@ -733,7 +733,7 @@ def _keeps(old: list[bytes], new: list[bytes], prefix: int, suffix: int) -> bool
 
 
 def _both(first: ChangedLines, second: ChangedLines) -> ChangedLines:
-    """Returns the lines that two calls changed, the second after the first, and those between."""
+    """Returns the lines that two calls, one after the other, have changed, and all lines between these."""
     if first.old_lines == first.new_lines == 0 or second.old_lines == second.new_lines == 0:
         return max(first, second, key=lambda changed: changed.old_lines + changed.new_lines)
     start = min(first.first_line, second.first_line)

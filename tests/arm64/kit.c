@@ -1,4 +1,4 @@
-/* Tests the C functions that proved code calls: the functions of c/kit, or the kit's own, which must pass the same
+/* Tests the C functions that proved code calls, those of c/kit or those of the kit. Both must pass the same
  * checks. Link it with --wrap for malloc, realloc and free. Usage: SET=value EMPTY= kit ARGUMENT .., with any
  * arguments. */
 #include <errno.h>
@@ -136,7 +136,7 @@ static void is_copied(ptrdiff_t (*asked)(const void *, uint8_t *, size_t), const
         HOLDS(asked(which, buf, room) == (room < length ? -2 : (ptrdiff_t)length));
         HOLDS(memcmp(buf, text, copied) == 0);
         for (size_t k = copied; k < MOST; k++)
-            if (buf[k] != 0xA5) HOLDS(!"the other bytes are as before");
+            if (buf[k] != 0xA5) HOLDS(!"the other bytes are unchanged");
     }
 }
 

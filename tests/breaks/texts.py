@@ -27,14 +27,15 @@ def random_text(chance):
 
 
 def random_texts(count, seed=17):
-    """Yields texts of characters with any combination of properties, even one that no real character has."""
+    """Yields texts of characters with any combination of properties, which need not occur in Unicode."""
     chance = random.Random(seed)
     for _ in range(count):
         yield random_text(chance)
 
 
 def random_code_points(tables, count, seed, is_left_out=lambda c: False):
-    """Yields texts of code points, without those that are left out. Chooses among combinations of properties, not among characters."""
+    """Yields texts of code points for which `is_left_out` is false. Chooses a combination of
+    properties first, and then a code point with these properties."""
     code_points = {}
     for c in range(0x110000):
         character = tables.character(c)

@@ -150,7 +150,7 @@ class Rows:
         return float(rule.number), before, rule.mark, after
 
     def number_rows(self):
-        """Returns a row for each position in the expression of a number that another can follow."""
+        """Returns a row for each position in the expression of a number that another position can follow."""
         count = len(self.follow)
         first, last, _ = self.positions(parsed(NUMBER), self.start)
         self.firsts |= first
@@ -184,7 +184,8 @@ class Rows:
         return first, last, is_empty
 
     def letters_in(self, is_excluded, names):
-        """Yields the letters in one of the sets, or in none. For LB30, the symbol says whether a parenthesis is wide."""
+        """Yields the letters in one of the named sets or, if `is_excluded`, in none of them. For LB30, the
+        symbol says whether a parenthesis is wide."""
         for number, (symbol, is_wide, is_pictograph) in enumerate(self.letters):
             given = {"EastAsian": is_wide, "ExtPictUnassigned": is_pictograph}
             if any(given[name] if name in given else is_in(name, shown(symbol)) for name in names) != is_excluded:
@@ -211,15 +212,16 @@ def indices(bits):
 class Questions:
     """What the rules say about a position, given the conditions that hold on the bases before it.
 
-    This is a mark if it is known. Otherwise it is a question: a tuple of what the rules then say, for each letter of the next base and for
-    the end.
+    This is a mark if the bases read so far determine the mark. Otherwise it is a question: a tuple of what the
+    rules then say, for each letter of the next base and for the end.
     """
 
     def __init__(self, rows):
         self.rows, self.known = rows, {}
 
     def asked(self, rules):
-        """Returns the mark or question for a list of marks, each with the positions that may come next, or None if its rule applies."""
+        """Returns the mark or question for a list of marks. Each mark has the positions that may come
+        next, or None if its rule applies."""
         first = rules[0]
         if first[1] is None:
             return first[0]
@@ -337,7 +339,7 @@ class Model:
                     self.outcome[name, symbol] = meant[self.said(self.known[name], symbol)]
 
     def node(self, name):
-        """Returns the mark or question with a name. In 15.0 there is a pair of them: without and with whole numbers."""
+        """Returns the mark or question with a name or, for a pair of names in 15.0, both of them."""
         return tuple(map(self.named.get, name)) if isinstance(name, tuple) else self.named[name]
 
     def started(self):
@@ -366,7 +368,8 @@ class Model:
         return known
 
     def reached(self, name, symbol):
-        """Returns the next state. If the rules treat several alike, it is the one whose last base has this symbol, or the last one."""
+        """Returns the next state. If the rules treat several states alike, returns the one whose last base
+        has this symbol, or else the last of these states."""
         known = self.read(self.known[name], symbol)
         alike = [other for other in self.states if self.known[other] == known]
         return next((other for other in alike if self.states[other][0] == symbol), alike[-1])
@@ -383,7 +386,7 @@ class Model:
         return tuple(found)
 
     def answer(self, question, symbol):
-        """Returns the answer of a question."""
+        """Returns the answer to a question before a symbol, or at the end of the text."""
         names = {node: name for name, node in self.named.items()}
         if symbol == "end":
             return names[question[-1]]
@@ -430,7 +433,7 @@ class Walk:
 
 
 def is_wide_base(c):
-    """Returns whether a base that begins with this character is wide. LB10: a CM or ZWJ is then an AL, and not wide."""
+    """Returns whether a base that begins with this character is wide. A CM or ZWJ is then an AL (LB10)."""
     return c.is_wide and c.line_class not in ATTACHED
 
 

@@ -1554,12 +1554,12 @@ static void script_runs(void) {
     size_t count = 77;
     runs_are("", "");
     runs_are("abc, \u05d0\u05d1.", "5 Latn 3 Hebr ");
-    runs_are("a (\u05d0) b", "3 Latn 1 Hebr 3 Latn ");             /* the brackets are those of `a` */
-    runs_are("(\u05d0) abc", "4 Hebr 3 Latn ");                    /* what comes first belongs to what follows */
+    runs_are("a (\u05d0) b", "3 Latn 1 Hebr 3 Latn ");             /* the brackets have the script of `a` */
+    runs_are("(\u05d0) abc", "4 Hebr 3 Latn ");                    /* a leading bracket has the script that follows */
     runs_are("a[\u05d0(\u05d1]c", "2 Latn 3 Hebr 2 Latn ");        /* an outer bracket closes an inner one */
     runs_are("a)\u05d0)", "2 Latn 2 Hebr ");                       /* closing brackets without an opening one */
     runs_are("a(\u05d0))", "2 Latn 1 Hebr 2 Latn ");               /* a pair matches once */
-    runs_are("12 + 3", "6 Zyyy ");                                 /* no character has a script */
+    runs_are("12 + 3", "6 Zyyy ");                                 /* all characters are Common */
     runs_are("\u0301a\u0301\u05d0\u0301", "3 Latn 2 Hebr ");      /* marks */
     runs_are("\u0e01\u0628\u3042\u30a2\u4e00\U00010E80", "1 Thai 1 Arab 1 Hira 1 Kana 1 Hani 1 Yezi ");
     runs_are("\ue000 \u0378", "3 Zzzz ");                         /* a private-use character and an unassigned one */
@@ -1738,8 +1738,9 @@ static void line_separators_alone_end_paragraphs(void) {
         has_parts(of, size, 0, all[k].paragraphs, all[k].lines);
         has_parts(of, size, only, all[k].paragraphs_of_lines, all[k].lines_of_lines);
         if (all[k].character == 0) continue;
-        /* A paragraph separator is between the ends of the embedding, which are right-to-left, so it has level 1 before L1.
-         * Any other character is between two letters of the embedding. */
+        /* A paragraph separator is a level run of its own between two runs of the embedding. So its sos
+         * and eos are R, and its level before L1 is 1. Any other character is between two letters of
+         * the embedding. */
         OK(hordguli_levels(&tables, HORDGULI_LTR, inside, 4, 4, levels));
         HOLDS((levels[2] == 1) == (all[k].paragraphs == 2));
         OK(hordguli_levels(&tables, HORDGULI_LTR | only, inside, 4, 4, levels));
@@ -2240,7 +2241,7 @@ static void caret_stays_after_a_final_line_separator(void) {
     }
 }
 
-/* A function with one array does not skip NULL: it stores the size. */
+/* A function with a single array does not skip the array if it is NULL, but stores the required size. */
 static void null_array_is_too_small(void) {
     static const uint32_t characters[] = {'a', 0x5D0};
     static const uint8_t levels[] = {0, 1};

@@ -140,8 +140,8 @@ static inline int reference_caret(hordguli_edge edge, hordguli_caret *caret) {
     return 1;
 }
 
-/* The nearest end of a unit to the left or right of a column, as an edge of the unit that is passed. Returns 0 if there
- * is none. */
+/* The nearest end of a unit to the left or right of a column, as an edge of the unit that a step passes.
+ * Returns 0 if there is none. */
 static inline int reference_step(size_t line, size_t column, uint32_t direction, hordguli_edge *next) {
     const unit *nearest = NULL;
     for (const unit *u = units; u < units + unit_count; u++) {

@@ -316,7 +316,8 @@ static char word_class(uint32_t c) {
     return '?';
 }
 
-/* Returns whether there is a word boundary between two characters: 1, 0, or -1 if that depends on others. */
+/* Returns whether there is a word boundary between two characters: 1, 0, or -1 if that depends on other
+ * characters. */
 static int word_boundary(uint32_t a, uint32_t b) {
     char left = word_class(a), right = word_class(b);
     if (left == 'R' && right == 'F') return 0;                                 /* WB3 */

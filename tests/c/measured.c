@@ -3,7 +3,7 @@
  * - Rows: examples of each rule.
  * - Edits and measures TEXTS random texts, whose advances the test keeps itself. Compares lines, columns, carets, hits, edges
  *   and selections with a reference implementation: the definitions of docs/reference.md, computed from break marks, levels,
- *   clusters and advances. Only the lines that two calls of a user have replaced may differ.
+ *   clusters and advances. An edit and the measurement after it may change only the lines in their damage.
  * - Edits SESSIONS sessions whose advances are the columns of their characters. Each session must return what a session
  *   that is not measured returns. */
 #include "answers.h"

@@ -39,7 +39,7 @@ static uint32_t edited_advances[MOST];
 static size_t starts[2][MOST]; /* of the lines, here and in Pango */
 static double times[TIMES];
 static size_t equal_texts;
-static hb_font_t *fonts[MOST_FONTS]; /* of Pango. The first is that of the description */
+static hb_font_t *fonts[MOST_FONTS]; /* of Pango, first the font of the description */
 static size_t font_count;
 static hb_buffer_t *buffer;
 

@@ -82,7 +82,7 @@ static void lines_are_rows(hordguli_session *session, hordguli_tables *tables, c
             OK(hordguli_text_utf32(session, info.start, count, BYTES, shown, &count));
             if (info.length != count) continue;
             OK(hordguli_cluster_at(session, info.start, &cluster));
-            if (cluster.start != info.start) continue; /* the row alone may have other clusters */
+            if (cluster.start != info.start) continue; /* a row without its context may have other clusters */
             OK(hordguli_row(tables, options & (HORDGULI_REORDER_NSM | HORDGULI_REORDER_CLUSTERS | HORDGULI_LINE_SEPARATORS),
                             of.base, count, shown, all_levels + at, BYTES, characters[1], levels[1], ltov[1], vtol[1]));
             OK(hordguli_row_runs(tables, of.base, count, shown, all_levels + at, MOST * 4, runs[1], &run_counts[1]));

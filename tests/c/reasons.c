@@ -125,7 +125,7 @@ static void pair_is_right(size_t k) {
         HOLDS(reasons[reason->inside].sequence == reason->sequence && is_strong(reasons[reason->inside].class_after[8]));
         HOLDS((inside == embedding) == (reason->bracket_case == HORDGULI_BRACKET_CASE_B));
         HOLDS((reason->class_after[9] == embedding) == (reason->bracket_case != HORDGULI_BRACKET_CASE_C1));
-        for (size_t m = opener + 1; m < reason->inside; m++) /* it is the first one */
+        for (size_t m = opener + 1; m < reason->inside; m++) /* the first of its direction */
             if (reasons[m].sequence == reason->sequence && is_strong(reasons[m].class_after[8]))
                 HOLDS(direction_of(reasons[m].class_after[8]) != inside);
     }

@@ -183,7 +183,7 @@ int main(int count, char **words) {
             characters[k] = letters[below(2) == 0 ? below(LETTERS) : ((size_t)rows + below(kinds)) % LETTERS];
         OK(hordguli_base(&tables, direction, characters, length, &base));
         OK(hordguli_levels(&tables, direction, characters, length, length, levels));
-        if (below(20) == 0) /* levels of no paragraph */
+        if (below(20) == 0) /* levels that no paragraph has */
             for (size_t k = 0; k < length; k++) levels[k] = (uint8_t)below(127);
         same_row((uint32_t)below(2) * HORDGULI_REORDER_NSM | (uint32_t)below(2) * HORDGULI_REORDER_CLUSTERS, base,
                  characters + from, levels + from, to - from);

@@ -1458,7 +1458,7 @@ static const call calls[] = {
          .ways = {of_characters, of_base, of_elements}, .out_size = sizeof(size_t), .count = 5, .needed = 2),
     CALL(paragraph, READING ", NO_ROOM", .ways = {of_session, of_at, of_paragraph},
          .out_size = sizeof(hordguli_paragraph_info), .at = 1, .end = 3, .needed = 7),
-    /* NO_ROOM does not allocate: the handle of the tables keeps the memory of the first call. */
+    /* A call that returns NO_ROOM allocates nothing, since the tables keep the memory of the first call. */
     CALL(layout,
          "NULL, OVERLAP, WIDTH_OUT_OF_RANGE (above 65,535), UNKNOWN_OPTION, NOT_UTF8, CLOSED, WIDTH_OUT_OF_RANGE (0), "
          "TEXT_TOO_LONG, PARAGRAPH_TOO_LONG, NO_MEMORY, NO_ROOM",

@@ -14,7 +14,7 @@ static void so(int is, const char *what) {
         passed++;
     } else {
         failed++;
-        printf("not so: %s\n", what);
+        printf("failed: %s\n", what);
     }
 }
 #define SO(condition) so(condition, #condition)

@@ -187,7 +187,7 @@ int main(int argc, char **argv) {
             plain_levels(&one, 0, annex);
             for (int k = 0; k < one.length; k++) same = same && annex[k] == one.levels[k];
             agree += same, wrong += !same;
-            if (!same && shown[0]++ < 3) printf("the plain levels differ: "), show(LEVELS, &one);
+            if (!same && shown[0]++ < 3) printf("the levels of reference.h differ: "), show(LEVELS, &one);
         }
         for (int call = 0; call < CALLS; call++) {
             unsigned bits = met(call, &one);

@@ -30,7 +30,7 @@ class Mutant:
         for file, old, new in self.pairs:
             text = texts.get(file) or read(f"{folder}/{file}")
             if text.count(old) != 1:
-                sys.exit(f"mutants: {path}: not once in {file}: {old!r}")
+                sys.exit(f"mutants: {path}: not exactly once in {file}: {old!r}")
             self.places.append((file, text, text.index(old) + len(old)))
             texts[file] = text.replace(old, new)
 

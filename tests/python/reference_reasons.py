@@ -540,7 +540,7 @@ def compares_levels(tables, name, cases):
             base = first_strong_level([tables.classes[ord(one)] for one in text]) or 0
         found = line_levels(reasons(tables, text, given), base)
         if found != wanted or level not in (None, base):
-            differ.append(f"{' '.join(f'{ord(one):04X}' for one in text)}: {wanted} is wanted, and {found} found")
+            differ.append(f"{' '.join(f'{ord(one):04X}' for one in text)}: {wanted} is expected, and {found} found")
     return told(f"{name} of {tables.version}", count, differ)
 
 
@@ -560,7 +560,7 @@ def compares_rules(tables):
             wanted = ["LB13" if rule == "LB25" and one.class_after in ("CL", "CP", "IS", "SY") else rule for rule, one in zip(wanted, found)]
         count += 1
         if [one.rule for one in found] != wanted or [one.mark.replace("!", "÷") for one in found] != words[2::2]:
-            differ.append(f"{line}: {' '.join(wanted)} is wanted, and {' '.join(one.rule for one in found)} found")
+            differ.append(f"{line}: {' '.join(wanted)} is expected, and {' '.join(one.rule for one in found)} found")
     return told(f"the rules of LineBreakTest.txt of {tables.version}", count, differ)
 
 

@@ -142,7 +142,7 @@ def test_a_child_has_its_own_sessions():
 
 
 class Busy:
-    """Keeps another thread in a call of a handle: in the lock, where a fork finds it."""
+    """A thread that holds the lock of a handle, as during a call, while another thread forks."""
 
     def __init__(self, handle):
         self.handle, self.has_it, self.ends = handle, threading.Event(), threading.Event()

@@ -111,7 +111,7 @@ def cut(text, rng):
 
 
 def reference(measure, given, shaper):
-    """Measures a paragraph one character after another, and forgets all that is known."""
+    """Measures a paragraph as `Measure` does, but decides for one character at a time, and keeps nothing."""
     fonts, advances = [shaper.open(file, measure.scale) for file in measure.files], [0] * len(given.text)
     for start, length, level in given.runs:
         script, font, parts = None, 0, []

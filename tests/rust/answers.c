@@ -218,7 +218,7 @@ static void text_answers(void) {
     if (succeeds("lines_utf8", hordguli_lines_utf8(&session, first, lines, print, BYTES, bytes, &length))) tell_bytes("byte", bytes, length);
 }
 
-/* Adds to the checksum how the levels and break marks of a text come about. */
+/* Adds the reasons for the levels and break marks of a text to the checksum. */
 static void reason_answers(hordguli_tables *chosen, uint32_t options, uint32_t direction, const uint32_t *characters, size_t count) {
     static hordguli_reason reasons[MOST];
     static hordguli_break_reason breaks[MOST];

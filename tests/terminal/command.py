@@ -18,7 +18,7 @@ class Result(NamedTuple):
 
 
 def use(program):
-    """Chooses a program. One that is installed finds its own tables."""
+    """Chooses a program. An installed program finds its tables itself."""
     PROGRAM[:] = [*EMULATOR, os.path.abspath(program)]
     if os.path.exists(os.path.join(os.path.dirname(PROGRAM[-1]), "../../share/hordguli/ucd")):
         TABLES.clear()

@@ -68,7 +68,7 @@ AFTER_CR = [
     ("short strings", lambda n: "\r" + f"{E}]0;u\a" * (n // 6) + "\n"),
     ("dropped controls", lambda n: "\r" + "\0" * n + "\n"),
 ]
-# Each case has a name, and a text of n characters without a strong one. Its direction is known at its end.
+# Each case has a name, and a text of n characters without a strong one, so `-d file` must read all of it.
 WITHOUT_DIRECTION = [
     ("digits", lambda n: "1" * n),
     ("short paragraphs", lambda n: "1\n" * (n // 2)),

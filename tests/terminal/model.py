@@ -5,7 +5,7 @@ Each step is a function of its own, in the order in which a text goes through th
 1. `decoded`: bytes to characters
 2. `styled`: characters to styled characters; sequences, overstrikes and dropped controls are gone
 3. `paragraphs`: the paragraphs, each with its separator
-4. `laid_out`: the lines of a paragraph in visual order, by the Python package; `with_quotes` and `with_prefix` lay out what follows these
+4. `laid_out`: the lines of a paragraph in visual order, by the Python package; `paragraph` adds its quote or prefix
 5. `written`: a line with the sequences that change the style
 6. `printed`: the output for all texts
 
@@ -383,7 +383,7 @@ class Layout:
 
 
 def direction_of(text, its):
-    """Returns the direction for `-d file`, or the one that is set. The text has its sequences."""
+    """Returns the direction for `-d file`, or else the direction that is set. The text has its sequences."""
     if its.direction != "file":
         return DIRECTIONS[its.direction]
     tables = hordguli.default_tables(its.unicode)
@@ -395,7 +395,7 @@ def direction_of(text, its):
 
 
 def parts(text, styles, direction, its):
-    """Yields the parts of a paragraph over the limit, and their direction. Another paragraph is one part."""
+    """Yields the parts of a paragraph, and their direction. A paragraph within the limit is one part."""
     for start in range(0, len(text), MOST_IN_PARAGRAPH):
         end = start + MOST_IN_PARAGRAPH
         yield text[start:end], styles[start:end], direction

@@ -29,8 +29,7 @@ pub enum StoreKind {
     Tree,
 }
 
-/// Makes edits in a session that keeps its paragraphs in a list or a tree, and prints the
-/// session's counts.
+/// Makes edits in a session whose paragraphs are kept in a list or a tree, and prints the session's counts.
 pub fn run(rt: &HostRuntime, kind: StoreKind, paragraphs: usize, edits: usize) -> Result<()> {
     match kind {
         StoreKind::List => show::<VecStore<Kept>>(rt, paragraphs, edits),
@@ -98,8 +97,8 @@ pub fn open<S: ParagraphStore<Kept> + Drop>(
 /// Drops a session. No other function drops a session, just as only `let_go` drops an engine.
 pub fn close<S: ParagraphStore<Kept> + Drop>(_session: Session<S>) {}
 
-/// Inserts and deletes two characters at a time. Paragraphs are split about as often as joined, so their
-/// number and lengths change little.
+/// Inserts and deletes two characters at a time. Paragraphs are split about as often as joined, so the
+/// number and the lengths of the paragraphs change little.
 pub fn make_edits<S: ParagraphStore<Kept>>(session: &mut Session<S>, edits: usize) {
     let mut numbers = Numbers::new();
     for _ in 0..edits {

@@ -5,7 +5,7 @@ use crate::rows::show;
 use anyhow::Result;
 use lines::Engine;
 
-// The maximum number of open brackets, and their closing brackets.
+// As many opening brackets as the stack of BD16 holds (63), followed by their closing brackets.
 const DEEP: &str = "(((((((((((((((((((((((((((((((((((((((((((((((((((((((((((((((\
     )))))))))))))))))))))))))))))))))))))))))))))))))))))))))))))))";
 

@@ -67,7 +67,7 @@ fn measure_kind(
     measure(rt, subject, tables, &text, kind.name)
 }
 
-/// Makes an engine with the tables of a folder.
+/// Makes an engine with the tables read from a folder.
 pub fn engine(rt: &HostRuntime, folder: &str) -> Result<Engine> {
     Ok(Engine::new(in_folder(rt, folder)?, Options::default()))
 }

@@ -75,15 +75,15 @@ fn measure_edits<S: ParagraphStore<Kept>>(
     show_numbers(rt, &[opening, editing])
 }
 
-// The two widths, which alternate. At first, everything is laid out at `WIDE`.
+// The two widths, which alternate. All paragraphs are first laid out at `WIDE`.
 const NARROW: u16 = 60;
 
 const WIDE: u16 = 80;
 
 /// Prints times in nanoseconds for the text of a file. The first three times are for laying out each
 /// paragraph, and for filling it again at the narrow width and at the wide width. The other times are for
-/// setting a session's width to the narrow one, and back. All times but the first are the minimum of several
-/// runs.
+/// setting a session's width to the narrow width and back to the wide width. All times except the first are
+/// the minimum of several runs.
 pub fn set_width(rt: &HostRuntime, folder: &str, kind: StoreKind, file: &str) -> Result<()> {
     let text = fs::read_to_string(rt, file)?;
     set_width_of(rt, folder, kind, text.as_str())

@@ -13,7 +13,7 @@ use Rattle.bidi.specs.Runs.{IsRunEnd, next_start, sequence_at}
 use Rattle.bidi.specs.Sequences.{direction, eos, level_before, level_after}
 use Rattle.bidi.proofs.RunLemmas.{first_of-range, last_match, last_of-range, rest_of, sequence_at-run}
 
--- writing values to consecutive indices replaces that part of the list
+-- writing values to consecutive indices replaces the items in this range of the list
 pub put-within : (values levels : List ℕ) (a : ℕ) → a + length values ≤ length levels
     → put levels (range_with_len a (length values)) values ≡ take a levels ++ (values ++ drop (a + length values) levels)
 put-within [] levels a e = let whole : a + 0 ≡ a = omega arith in rw whole (sym (take-append-drop a levels))
@@ -26,14 +26,15 @@ put-within (value ∷ values) levels a e =
     ∙ append_assoc (take a levels) (value ∷ []) (values ++ rest)
     ∙ ap (λ n. take a levels ++ ((value ∷ values) ++ drop n levels)) (sym next)
 
--- reading the items at consecutive indices yields that part of the list
+-- the list of the items at consecutive indices is a range of the list
 pub range-part : {X : Type 0} (xs : List X) (d : X) (start n : ℕ) → start + n ≤ length xs → map (λ k. get_or xs k d) (range_with_len start n) ≡ take n (drop start xs)
 range-part xs d start zero within = refl
 range-part xs d start (suc n) within =
     ap (λ more. get_or xs start d ∷ more) (range-part xs d (start + 1) n (omega (arith, within)))
     ∙ sym (ap (take (suc n)) (drop_more xs start d (omega (arith, within))))
 
--- if no run begins at the match of a run's last character, the run is a whole sequence
+-- if no run begins at the match of a run's last character, the sequence that begins with the run is the run
+-- alone
 pub alone : (classes : List BidiClass) (levels matches : List ℕ) (start end : ℕ) → matches ≡ matches_of classes → length classes ≡ length levels → IsRunEnd levels start end
     → None ≡ next_start levels (get_or matches (end - 1) 0) → sequence_at classes levels start ≡ range_with_len start (end - start)
 alone classes levels matches start end e size run none =
@@ -70,7 +71,7 @@ module _ (bracket : ℕ → Option Bracket) (base : ℕ) (characters : List ℕ)
       ∙ ap (sequence_levels bracket (slice_index levels start) (before start) (after (end - 1))
       (take n (drop start characters))) (range-part types ON start n (omega (arith, above, within, types_size)))
 
-  -- writing the levels to the indices of such a run replaces that part of the list
+  -- writing the levels of such a run replaces the items from `start` up to `end`
   pub written_alone : (done values : List ℕ) → length done ≡ length levels → length values ≡ n
       → values ≡ sequence_levels bracket (slice_index levels start) (before start) (after (end - 1)) (take n (drop start characters)) (take n (drop start types))
       → take start done ++ (values ++ drop (start + n) done) ≡ put done places (levels_in bracket base characters classes levels types places)

@@ -32,7 +32,7 @@ pub stepped : (classes : List BidiClass) (k d : ℕ) (class : BidiClass) (depth 
 stepped classes k d class depth within reached deep there e =
     rw (e, there) (Reached-next classes k d within reached (rw there at deep))
 
--- the class of the decoded character is the class at the index of the search
+-- if c is the character at index k, its class is the item at k of the list of classes
 pub class_decoded : (tables : Tables) (text : List ℕ) (k c : ℕ) → (k < length text) × (c ≡ get_or text k c) → class_of tables c ≡ class_at (map (class_of tables) text) k
 class_decoded tables text k c decoded =
     ap (class_of tables) decoded.1 ∙ sym (get_or-map (class_of tables) text k c ON decoded.0)

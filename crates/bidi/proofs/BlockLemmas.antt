@@ -42,7 +42,7 @@ lane p q r s t u =
 abbrev pub positions : List ℕ
 positions = range_with_len 0 32
 
--- loading lanes from `from` on loads the bytes at these positions
+-- loading 32 lanes from index `from` on yields, at each position k, the byte at k + `from`
 pub loaded : (block : List ℕ) (from : ℕ) → from + 32 ≤ length block → chunk from 32 block ≡ map (λ k. get_or block (k + from) 0) positions
 loaded block from room =
     let f : ℕ → ℕ = λ k. get_or block (k + from) 0 in
@@ -54,7 +54,7 @@ loaded block from room =
     get_or-chunk from 32 block k 0 inside ∙ ap (λ i. get_or block i 0) at
     ∙ sym (get_or-map f positions k 0 0 (omega (arith, inside, length-range_with_len 0 32)) ∙ ap f (get_or-range_with_len 0 32 k 0 inside ∙ first)))
 
--- a vector with the same value in each lane has this value at each position
+-- a vector with the same value in each lane is a constant function of the position
 pub splat : (y : ℕ) → replicate 32 y ≡ map (λ (k : ℕ). y) positions
 splat y = splat_is_map positions 32 y (length-range_with_len 0 32)
 
@@ -62,7 +62,8 @@ map_agree : (f g : ℕ → Bool) (xs : List ℕ) → ((x : ℕ) → f x ≡ g x)
 map_agree f g [] same = refl
 map_agree f g (x ∷ xs) same = ap₂ (λ b bs. b ∷ bs) (same x) (map_agree f g xs same)
 
--- if lanes that are computed by position have the lead flags as top bits, their mask is the mask of the leads
+-- if the top bit of each lane says whether a separator may begin at its position, the mask of the top bits is
+-- the mask of these positions
 pub bits_by_position : (block lanes : List ℕ) (f : ℕ → ℕ) → lanes ≡ map f positions → ((k : ℕ) → top 7 (f k) ≡ leads_at block k)
     → mask_l (map (top 7) lanes) % 2 ^ 64 ≡ mask_l (map (leads_at block) positions)
 bits_by_position block lanes f is same =

@@ -1,4 +1,4 @@
--- The steps of N0 follow from what its passes find.
+-- The steps of N0, computed from the results of its passes, agree with the definition.
 use Rattle.std.proofs.Common.{◌≡◌, ℕ, zero, suc, ◌+◌, ◌<◌, ◌≤◌, min, max, nat_le, Bool, true, false, ◌&&◌, ◌||◌, not, List, ◌++◌, ◌∷◌, [], map, length, fold, get_or, Option, Some, None, is_some, unwrap_or, if◌then◌else◌, refl, sym, ap, ◌∙◌, inl, inr, arith}
 use Rattle.std.specs.List.{range_with_len}
 use Rattle.std.proofs.lemmas.Bool.{cond-true, cond-false, cases_Bool, cases_eq, cases_lt, and_right, both_ways, le-leb, le-ltb, lt-ltb, or_left}
@@ -93,7 +93,8 @@ holder-same f g marks (suc k) same =
     ap (λ b. if b then Some k else (if get_or marks k false then holder f marks k else None)) (same k (omega arith))
     ∙ ap (λ o. if g k then Some k else (if get_or marks k false then o else None)) (holder-same f g marks k (λ p below. same p (omega arith)))
 
--- the types before the pair at k + 1 are those before the pair at k, after the step for that pair
+-- resolving the pairs that open before k + 1 means resolving those that open before k, and then the pair at
+-- k, if any
 pub resolved-more : (embedding sos : BidiClass) (marks : List Bool) (closer : ℕ → Option ℕ) (types : List BidiClass) (k : ℕ)
     → resolved_before embedding sos marks closer types (k + 1) ≡ pair_step embedding sos marks (resolved_before embedding sos marks closer types k) k (closer k)
 resolved-more embedding sos marks closer types k =
@@ -139,7 +140,7 @@ module _ (look : ℕ → Option Bracket) (embedding sos : BidiClass) (text : Lis
   closer-is : (a : ℕ) → a < length types → closer_by partners a ≡ closer_of (pairs_of look text types) a
   closer-is a below = ap (λ l. closer_by l a) found.partners_are ∙ closer_by-pairs_of look text types a below
 
-  -- the types for a pair are the same if the closing brackets are read from the list of partners
+  -- reading the closing brackets from the list of partners yields the same types for the pair that opens at a
   types-are : (a : ℕ) → a ≤ length types
       → resolved_before embedding sos (map is_mark explicit) (closer_by partners) types a ≡ types_for look embedding sos text explicit types a
   types-are a within =
@@ -192,7 +193,7 @@ module _ (look : ℕ → Option Bracket) (embedding sos : BidiClass) (text : Lis
       let low = (partner-is look text types k j e).within in
       (p, lt-ltb (get_or partners k 0) (length partners) (omega arith))
 
-  -- the decision for the pair of the brackets at k and j is that of the definition
+  -- the decision for the pair with brackets at k and j agrees with the definition
   decided : (k j : ℕ) → k < length types → pairs_are k ≡ Some j
       → decision_at (min k (get_or partners k 0)) ≡ decision_by (is_left embedding) sos (types_for look embedding sos text explicit types (min k j)) (min k j) (Some (max k j))
   decided k j within e =

@@ -1,5 +1,5 @@
--- Every list of bracket types belongs to some text and lookup, and each part of the list belongs to the same
--- part of the text.
+-- Every list of bracket types belongs to some text and lookup, and each range of the list belongs to the
+-- corresponding range of the text.
 use Rattle.std.proofs.Common.{◌≡◌, ℕ, zero, suc, ◌+◌, ◌-◌, ◌<◌, ◌≤◌, nat_lt, ◌==◌, Bool, true, false, if◌then◌else◌, List, [], ◌∷◌, length, take, drop, map, filter, replicate, slice_index, Option, Some, None, Result, Ok, Err, OnOk, refl, sym, ap, subst, ◌∙◌, inl, inr, arith}
 use Rattle.std.specs.List.{range_with_len}
 use Rattle.std.proofs.lemmas.Bool.{cond-true, cond-false, cases_Bool, both_ways, eq-eqb, ne_eqb, le-ltb, lt-ltb}
@@ -99,7 +99,7 @@ module _ (look : ℕ → Option Bracket) (text : List ℕ) where
   one-at : (k : ℕ) → k < length text → type_by (look (slice_index text k)) (slice_index text k) ≡ bracket_at (bracket_types look text) k
   one-at k within = sym (get_or-map (λ c. type_by (look c) c) text k 0 Other within)
 
-  -- the characters at some indices have the bracket types at these indices
+  -- the bracket types of the characters at given indices are the bracket types at these indices
   pub types-places : (places : List ℕ) → AreWithin (length text) places → bracket_types look (map (slice_index text) places) ≡ map (bracket_at (bracket_types look text)) places
   types-places [] within = refl
   types-places (place ∷ places) within =
@@ -118,7 +118,7 @@ module _ (look : ℕ → Option Bracket) (text : List ℕ) where
         | inr gone ↦ subst P (sym (cond-false (test a) (a ∷ filter test rest) (filter test rest) gone)) later
       ]
 
-  -- the bracket types of a part of a text are the same part of the text's bracket types
+  -- the bracket types of a range of a text are the corresponding range of the text's bracket types
   pub types-part : (start n : ℕ) → bracket_types look (take n (drop start text)) ≡ take n (drop start (bracket_types look text))
   types-part start n =
       let f : ℕ → BracketType = λ c. type_by (look c) c in

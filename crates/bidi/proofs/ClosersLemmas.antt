@@ -1,4 +1,5 @@
--- Lists of opening brackets: the list of closers of each, and how the pass that finds the pairs changes both.
+-- Lists of opening brackets, the lists of closers made from them, and how the pass that finds the pairs
+-- changes both.
 use Rattle.std.proofs.Common.{◌≡◌, ◌≢◌, ℕ, zero, suc, ◌+◌, ◌<◌, ◌≤◌, ◌==◌, Bool, false, List, ◌++◌, ◌∷◌, [], map, length, take, get_or, set, slice_index, Option, Some, None, unwrap_or, if◌then◌else◌, refl, sym, ap, ◌∙◌, inl, inr, arith}
 use Rattle.std.proofs.lemmas.Bool.{cond-true, cond-false, cases_Bool, cases_eq, cases_lt, cases_order, eq-eqb, ne_eqb}
 use Rattle.std.proofs.lemmas.List.{get_or-take, get_or_append_left, get_or_push, get_or_default, get_or_past, get_or_read, length-take, length_push, get_or-map, length-map, map-append, take-map, get_or-set_same, get_or-set_other, length-set}
@@ -48,7 +49,8 @@ unwrap-push (p ∷ pairs) o len x =
 pub closers_by-push : (pairs : List BracketPair) (o len : ℕ) → closers_by (pairs ++ record { opener = o; closer = len } ∷ []) len ≡ closers_by pairs len
 closers_by-push pairs o len = closers_by-same (pairs ++ record { opener = o; closer = len } ∷ []) pairs len (λ x below. unwrap-push pairs o len x)
 
--- a bracket in the list has its closer, and a character that is not in the list has none
+-- `closer_of` finds the closer of an item by its opener, unless an earlier item has the same opener, and
+-- finds none for an index that is no opener
 closer_of-here : (pairs : List BracketPair) (i : ℕ) → i < length pairs → ((a : ℕ) → a < i → opener_at pairs a ≢ opener_at pairs i)
     → closer_of (map as_pair pairs) (opener_at pairs i) ≡ Some (closer_at pairs i)
 closer_of-here [] i within other = absurd (omega arith)
@@ -113,7 +115,7 @@ pub length-closed : (found : Option ℕ) (openers : List Opener) (pairs : List B
 length-closed (Some m) openers pairs place = length-set pairs (index_of openers m) (record { opener = opener_at pairs (index_of openers m); closer = place })
 length-closed None openers pairs place = refl
 
--- the places of live openers
+-- the indices of the live openers in the sequence
 abbrev pub places_in : List BracketPair → List Opener → List ℕ
 places_in pairs openers = map (λ (o : Opener). opener_at pairs o.index) openers
 
@@ -123,7 +125,8 @@ place-at pairs openers m within =
     get_or-map (λ (o : Opener). opener_at pairs o.index) openers m none 0 within
     ∙ ap (opener_at pairs) (sym (get_or-map (λ (o : Opener). o.index) openers m none 0 within))
 
--- the closing bracket at `place` changes the list of closers as it changes the list of opening brackets
+-- updating the list of opening brackets for the closing bracket at `place` updates the list of closers in the
+-- same way
 pub closers_by-closed : (found : Option ℕ) (openers : List Opener) (pairs : List BracketPair) (place k len : ℕ) → AreInOrder pairs k → k ≤ len
     → ((m : ℕ) → m < length openers → index_of openers m < length pairs) → ((m : ℕ) → found ≡ Some m → m < length openers)
     → closers_by (closed_by found openers pairs place) len ≡ closed_at found (places_in pairs openers) (closers_by pairs len) place
@@ -172,7 +175,8 @@ places_in-push pairs openers p o last indices =
     ∙ ap (λ ns. ns ++ opener_at (pairs ++ p ∷ []) o.index ∷ []) (places_in-more pairs openers p indices)
     ∙ ap (λ n. places_in pairs openers ++ n ∷ []) (opener-new pairs p o.index last))
 
--- the openers on the stack are in the list of opening brackets
+-- after an opening bracket has been added to both, the openers on the stack are still in the list of opening
+-- brackets
 pub indices-push : (pairs : List BracketPair) (openers : List Opener) (p : BracketPair) (o : Opener) → o.index ≡ length pairs
     → ((m : ℕ) → m < length openers → index_of openers m < length pairs)
     → (m : ℕ) → m < length (openers ++ o ∷ []) → index_of (openers ++ o ∷ []) m < length (pairs ++ p ∷ [])
@@ -280,7 +284,7 @@ opener_or-rises pairs i len order within =
       | inr past ↦ let at = opener_or-end pairs (i + 1) len (omega arith) in let below = order.below i within in omega arith
     ]
 
--- the closer of a bracket in the list of opening brackets is its closer in the list of closers
+-- the list of opening brackets and the list of closers have the same closer for each opening bracket
 pub closer-is : (pairs : List BracketPair) (i len : ℕ) → AreInOrder pairs len → i < length pairs → slice_index (closers_by pairs len) (opener_at pairs i) ≡ closer_at pairs i
 closer-is pairs i len order within =
     closers_of-at (map as_pair pairs) len (opener_at pairs i) 0 (order.below i within)
@@ -349,7 +353,7 @@ item-is pairs len i order inside =
 pub newest_within : (openers : List Opener) (closer m : ℕ) → Some m ≡ newest openers closer → m < length openers
 newest_within openers closer m e = (greatest_found (λ i. canonical (pair_of openers i) == canonical closer) (length openers) m (sym e)).0
 
--- the index of an opener read from the list
+-- the opener read at m has the index that `index_of` returns
 pub index_read : (openers : List Opener) (m : ℕ) (opener : Opener) → m < length openers → opener ≡ get_or openers m opener → opener.index ≡ index_of openers m
 index_read openers m opener within is =
     let none : Opener = record { index = 0; pair = 0 } in

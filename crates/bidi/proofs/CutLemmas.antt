@@ -52,7 +52,8 @@ no_separators_to text at n m within before block k lt = elim (cases_lt k at) [
 abbrev pub UncutTo : (ℕ → ℕ → Bool) → List ℕ → ℕ → ℕ → Type 0
 UncutTo is_cut text last to = (k : ℕ) → k < to → k < last → is_cut (slice_index text k) (slice_index text (k + 1)) ≡ false
 
--- there is no boundary after the first m of the n characters from `at` on
+-- if there is no boundary after the first m characters of a block that begins at `at`, `UncutTo` holds up to
+-- `at + m`
 pub uncut_past : (is_cut : ℕ → ℕ → Bool) (text : List ℕ) (last at n m : ℕ) → m ≤ n → UncutTo is_cut text last at
     → ((k next : ℕ) → k < m → is_cut (slice_index (take n (drop at text)) k) next ≡ false) → UncutTo is_cut text last (at + m)
 uncut_past is_cut text last at n m within before uncut k to inside = elim (cases_lt k at) [
@@ -63,7 +64,7 @@ uncut_past is_cut text last at n m within before uncut k to inside = elim (cases
       subst (λ a. is_cut a (slice_index text (k + 1)) ≡ false) same (uncut (k - at) (slice_index text (k + 1)) (omega arith))
 ]
 
--- there is no boundary after the next character
+-- if there is no boundary after the character at `at`, `UncutTo` holds up to `at + 1`
 pub uncut_next : (is_cut : ℕ → ℕ → Bool) (text : List ℕ) (last at : ℕ) → UncutTo is_cut text last at
     → (at < last → is_cut (slice_index text at) (slice_index text (at + 1)) ≡ false) → UncutTo is_cut text last (at + 1)
 uncut_next is_cut text last at before here k to inside = elim (cases_lt k at) [

@@ -128,7 +128,7 @@ module _ (base : ℕ) where
         }
       ]
 
-  -- characters that open and close no opener do not change the indices
+  -- updating the indices does not change them if their number is already the depth
   pub same_indices : (classes : List BidiClass) (n k : ℕ) (indices : List ℕ) → AreIndices classes n indices
       → updated indices (depth base (open_chain classes n)) k ≡ indices
   same_indices classes n k indices are =

@@ -214,7 +214,7 @@ module _ {T : Type 0} (k : ℕ) (p : ℕ → Bool) (here : p k ≡ true) (f : �
             (subst (λ xs. (length front < length (map f xs)) × (get_or (map f xs) (length front) d ≡ f k)) (sym (cond-false (p a) (a ∷ old) old gone)) later)
       ]
 
--- the number of the first k characters that X9 keeps
+-- how many of the first k characters X9 keeps
 abbrev pub kept_to : ℕ → List BidiClass → ℕ
 kept_to zero classes = 0
 kept_to (suc k) [] = 0

@@ -23,7 +23,7 @@ count-ignores p zero (x ∷ xs) not_counted = sum_by-cons (λ t. cond (p t) 1 0)
 count-ignores p (suc k) (x ∷ xs) not_counted =
     sum_by-cons (λ t. cond (p t) 1 0) x (double k xs) ∙ ap (λ n. cond (p x) 1 0 + n) (count-ignores p k xs not_counted) ∙ sym (sum_by-cons (λ t. cond (p t) 1 0) x xs)
 
--- ---- tests of all indices before one
+-- ---- tests of all indices before a given index
 and-true : (b : Bool) → (b && true) ≡ b
 and-true true = refl
 and-true false = refl
@@ -144,7 +144,7 @@ base-double classes k Ltr inner = refl
 base-double classes k WeakRtl inner = ap (λ o. unwrap_or o 1) (strong_level-double classes k inner)
 base-double classes k WeakLtr inner = ap (λ o. unwrap_or o 0) (strong_level-double classes k inner)
 
--- ---- the initiators as which FSIs act
+-- ---- the initiators that FSIs act as
 directed_at-same : (new old : List BidiClass) (i j : ℕ) (class : BidiClass) → (class ≡ FSI → first_strong_level (span_of new i) ≡ first_strong_level (span_of old j))
     → directed_at new i class ≡ directed_at old j class
 directed_at-same new old i j FSI same = ap (λ o. if unwrap_or o 0 == 1 then RLI else LRI) (same refl)

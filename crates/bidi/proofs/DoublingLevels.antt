@@ -18,7 +18,7 @@ use Rattle.bidi.proofs.DoublingIsolates.{IsInner, directed-double}
 use Rattle.bidi.proofs.DoublingLists.{collapse, collapse-next, collapse-shift, get_or-double, length-double, shift, shift-low}
 use Rattle.bidi.proofs.DoublingSequences.{eos-double, first-double, sequences-double, sos-double, widen, widen-other, widen-same}
 
--- the list with each item repeated whose mark is set
+-- the list in which each item is repeated if its mark is set
 abbrev pub stutter : {T : Type 0} → List Bool → List T → List T
 stutter [] items = items
 stutter (mark ∷ marks) [] = []
@@ -27,7 +27,7 @@ stutter (mark ∷ marks) (item ∷ items) = item ∷ (if mark then item ∷ stut
 abbrev pub marks_of : ℕ → List ℕ → List Bool
 marks_of k places = map (λ i. k == i) places
 
--- n marks that are not set, and then others
+-- the given marks after n marks that are not set
 abbrev pad : ℕ → List Bool → List Bool
 pad zero marks = marks
 pad (suc n) marks = false ∷ pad n marks

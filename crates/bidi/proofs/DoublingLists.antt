@@ -8,7 +8,7 @@ use Rattle.ucd.specs.Least.{least}
 use Rattle.bidi.specs.Doubling.{double}
 use Rattle.bidi.specs.Neighbours.{nearest}
 
--- the index in the old list of the item at index j of the list with the item at k repeated
+-- the old index of the item at index j of the new list, in which the item at k is repeated
 abbrev pub collapse : ℕ → ℕ → ℕ
 collapse k zero = zero
 collapse zero (suc j) = j
@@ -52,7 +52,7 @@ pub collapse-next : (k : ℕ) → collapse k (suc k) ≡ k
 collapse-next zero = refl
 collapse-next (suc k) = ap suc (collapse-next k)
 
--- unless the item at j is one of the two equal items, j is the new index of its old index
+-- unless j is the index of one of the two equal items, mapping j to its old index and back yields j
 pub shift-collapse : (k j : ℕ) → collapse k j ≢ k → shift k (collapse k j) ≡ j
 shift-collapse k zero other = refl
 shift-collapse zero (suc zero) other = absurd (other refl)
@@ -232,7 +232,7 @@ map-double f k [] = refl
 map-double f zero (x ∷ xs) = refl
 map-double f (suc k) (x ∷ xs) = ap (λ rest. f x ∷ rest) (map-double f k xs)
 
--- where a part of the new list begins and ends, if it is made from the part of the old list between two indices
+-- the start and the end of a range of the new list, given those of the corresponding range of the old list
 abbrev pub Begins : ℕ → ℕ → ℕ → Type 0
 Begins k start old = ((start ≡ old) × (old ≤ k)) ⊎ ((start ≡ suc old) × (k < old))
 
@@ -263,8 +263,8 @@ ends-after k j =
       | inr low ↦ inl (omega (arith, collapse-low k j low), omega (arith, low, collapse-low k j low))
     ]
 
--- if a function of lists ignores whether the item is repeated, it has the same result for a part of the new list and the
--- corresponding part of the old one
+-- if a function of lists ignores whether the item is repeated, it has the same result for a range of the new
+-- list and the corresponding range of the old one
 pub slice-double : {T A : Type 0} (d : T) (read : List T → A) (k : ℕ) (xs : List T) → ((m : ℕ) (ys : List T) → get_or ys m d ≡ get_or xs k d → read (double m ys) ≡ read ys)
     → (start old_start end old : ℕ) → Begins k start old_start → Ends k end old
     → read (slice_range (double k xs) start end) ≡ read (slice_range xs old_start old)
@@ -293,7 +293,7 @@ slice-double d read k xs ignores start old_start end old begins ends =
           ]
     ]
 
--- repeating an item of a list that is made from its indices yields the list that is made from the new indices
+-- if g j is f at the old index of j, g over the new indices is f over the old indices with item k repeated
 pub map-range-double : {T : Type 0} (f g : ℕ → T) (k n : ℕ) → ((j : ℕ) → g j ≡ f (collapse k j)) → k < n
     → map g (range_with_len 0 (suc n)) ≡ double k (map f (range_with_len 0 n))
 map-range-double f g k n same within =
@@ -350,7 +350,7 @@ pub range-last : (a n : ℕ) → range_with_len a (suc n) ≡ range_with_len a n
 range-last a zero = let e : a ≡ a + 0 = omega arith in ap (λ m. m ∷ []) e
 range-last a (suc n) = let e : a + 1 + n ≡ a + suc n = omega arith in ap (λ xs. a ∷ xs) (range-last (a + 1) n ∙ ap (λ m. range_with_len (a + 1) n ++ m ∷ []) e)
 
--- the end of the new list is the first new index of the end of the old list
+-- shifting an optional index and replacing a missing index by the length can be done in either order
 pub unwrap-shift : (k n : ℕ) (o : Option ℕ) → k < n → unwrap_or (option_map (shift k) o) (suc n) ≡ shift k (unwrap_or o n)
 unwrap-shift k n None within = sym (shift-high k n within)
 unwrap-shift k n (Some m) within = refl

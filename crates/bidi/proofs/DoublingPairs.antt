@@ -112,7 +112,7 @@ module _ (k : ℕ) (p q : ℕ → Bool) (same : (i : ℕ) → q i ≡ p (collaps
             ∙ ap (λ i. count_by p (range_with_len 0 i)) (sym (collapse-more k j ne))
       ]
 
--- the greatest number that passes a test passes it
+-- the number that `greatest` returns passes the test
 greatest-passes : (test : ℕ → Bool) (n m : ℕ) → greatest test n ≡ Some m → test m ≡ true
 greatest-passes test zero m e = absurd (cc)
 greatest-passes test (suc n) m e =

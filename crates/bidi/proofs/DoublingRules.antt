@@ -9,8 +9,8 @@ use Rattle.bidi.specs.Neutral.{between, is_neutral, neutral, neutral_at}
 use Rattle.bidi.specs.Weak.{is_arabic, is_left, is_number, is_terminator, mark_after, w1, w1_at, w2, w2_at, w3, w3_type, w4, w4_at, w5, w5_at, w6, w6_type, w7, w7_at, weak}
 use Rattle.bidi.proofs.DoublingLists.{map-double, nearest-double}
 
--- A rule is stable if a repeated type before or after an item changes nothing, and if a type that passes `calm`
--- and is repeated itself gets the same result twice.
+-- A rule is stable if repeating a type before or after an item does not change the result for the item, and
+-- if repeating a type that passes `calm` repeats its result.
 pub record IsStable (rule : List BidiClass → BidiClass → List BidiClass → BidiClass) (calm : BidiClass → Bool) : Type 0 where
   pub front : (k : ℕ) (before : List BidiClass) (type : BidiClass) (after : List BidiClass) → rule (double k before) type after ≡ rule before type after
   pub back : (k : ℕ) (before : List BidiClass) (type : BidiClass) (after : List BidiClass) → rule before type (double k after) ≡ rule before type after
@@ -34,7 +34,8 @@ module _ (rule : List BidiClass → BidiClass → List BidiClass → BidiClass) 
       ap (λ t. t ∷ each_by rule (type ∷ before) (double k types)) (stable.back k before type types)
       ∙ ap (λ rest. rule before type types ∷ rest) (each_by-double k (type ∷ before) types is)
 
--- the type at k passes a test after a rule if it passed it before
+-- if a rule maps each type that passes `calm` to a type that passes it, a type at k that passes still does
+-- after the rule
 each_by-calm : (rule : List BidiClass → BidiClass → List BidiClass → BidiClass) (calm : BidiClass → Bool)
     → ((before : List BidiClass) (type : BidiClass) (after : List BidiClass) → calm type ≡ true → calm (rule before type after) ≡ true)
     → (k : ℕ) (before types : List BidiClass) → calm (class_at types k) ≡ true → calm (class_at (each_by rule before types) k) ≡ true
@@ -252,7 +253,7 @@ neutral-stable embedding sos eos = record {
 pub neutral-double : (embedding sos eos : BidiClass) (k : ℕ) (types : List BidiClass) → neutral embedding sos eos (double k types) ≡ double k (neutral embedding sos eos types)
 neutral-double embedding sos eos k types = each_by-double (neutral_at embedding sos eos) any (neutral-stable embedding sos eos) k [] types refl
 
--- a rule keeps the length of a list
+-- applying a rule to each item does not change the length of the list
 pub length-each_by : (rule : List BidiClass → BidiClass → List BidiClass → BidiClass) (before types : List BidiClass) → length (each_by rule before types) ≡ length types
 length-each_by rule before [] = refl
 length-each_by rule before (type ∷ types) = ap suc (length-each_by rule (type ∷ before) types)

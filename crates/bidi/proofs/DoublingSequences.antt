@@ -125,7 +125,7 @@ runs-double levels k within =
     ∙ ap (paragraphs (changes (double k levels))) (range-double k (length levels) 0 (omega arith) (omega (arith, within)))
     ∙ parts-double k (changes levels) (changes (double k levels)) same whole (range_with_len 0 (length levels))
 
--- the first index of a run is the first new index of its old first index
+-- the first index of a run in the new list is the first new index of the run's old first index
 pub first-double : (k : ℕ) (run : List ℕ) → first_of (widen k run) ≡ shift k (first_of run)
 first-double k [] = refl
 first-double k (a ∷ run) = refl
@@ -134,7 +134,8 @@ last_of-cons : (a b : ℕ) (run : List ℕ) → last_of (a ∷ b ∷ run) ≡ la
 last_of-cons a b run =
     let e : suc (suc (length run)) - 1 ≡ suc (suc (length run) - 1) = omega arith in ap (slice_index (a ∷ b ∷ run)) e
 
--- the last index of a run is the new index of its old last index, or the second one if there are two
+-- the last index of a run in the new list is the new index of the run's old last index, or the second of its
+-- two new indices
 pub record IsLast (k new old : ℕ) : Type 0 where
   pub is : collapse k new ≡ old
   pub next : suc new ≡ shift k (suc old)

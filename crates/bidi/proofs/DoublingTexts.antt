@@ -14,7 +14,7 @@ use Rattle.bidi.proofs.DoublingExplicit.{repeat-inner}
 use Rattle.bidi.proofs.DoublingIsolates.{base-double}
 use Rattle.bidi.proofs.DoublingLevels.{paragraph-double}
 
--- repeating the character between two parts of a text puts it there twice
+-- inserting a second c after `before` repeats the character at index `length before`
 text-double : (before after : List ℕ) (c : ℕ) → before ++ c ∷ c ∷ after ≡ double (length before) (before ++ c ∷ after)
 text-double [] after c = refl
 text-double (b ∷ before) after c = ap (λ text. b ∷ text) (text-double before after c)

@@ -1,4 +1,5 @@
--- If no character of a paragraph raises a level above the paragraph level, 0 or 1, all levels equal it.
+-- If no character of a paragraph raises a level above the paragraph level, 0 or 1, all levels equal the
+-- paragraph level.
 use Rattle.std.proofs.Common.{◌≡◌, ℕ, zero, suc, ◌+◌, ◌-◌, ◌<◌, Bool, true, false, ◌&&◌, ◌||◌, not, if◌then◌else◌, List, [], ◌∷◌, ◌++◌, length, get_or, drop, map, fold, replicate, slice_index, slice_range, Option, Some, None, refl, sym, ap, subst, ◌∙◌, inl, inr, arith, add-zero, zero-add}
 use Rattle.std.specs.List.{range_with_len, All}
 use Rattle.std.proofs.lemmas.Bool.{cond-true, cond-false, cases_Bool, cases_lt}
@@ -93,8 +94,8 @@ abbrev is_seen : Bool → BidiClass → Bool
 is_seen true strong = is_left strong
 is_seen false strong = true
 
--- if a rule maps every type that passes one test to a type that passes another, it also does so for each type
--- of a list
+-- if a rule maps types that pass one test to types that pass another, `carry` maps a list of types that pass
+-- the first test to a list of types that pass the second
 carry-passes : (rule : BidiClass → BidiClass → List BidiClass → BidiClass) (test kept passes makes : BidiClass → Bool)
     → ((before type : BidiClass) (after : List BidiClass) → kept before ≡ true → passes type ≡ true → Passes passes after → makes (rule before type after) ≡ true)
     → ((before type : BidiClass) → kept before ≡ true → passes type ≡ true → kept (if test type then type else before) ≡ true)

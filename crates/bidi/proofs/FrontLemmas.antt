@@ -11,8 +11,8 @@ first_of_two true a ps = ([], ps, refl)
 first_of_two false a [] = ([], [], refl)
 first_of_two false a (p ∷ ps) = (p, ps, refl)
 
--- If the first paragraph continues after x, there is no boundary after x. Without x, it is the first
--- paragraph of the text after x.
+-- If the first paragraph continues after x, there is no boundary after x. Removing x from the first paragraph
+-- leaves the first paragraph of the text after x.
 not_cut : (t : Bool) (x b : ℕ) (q : List ℕ) (qs : List (List ℕ)) (w : List ℕ) (ws : List (List ℕ)) (y : ℕ) → (if t then (x ∷ []) ∷ ((b ∷ q) ∷ qs) else onto_first x ((b ∷ q) ∷ qs)) ≡ (x ∷ y ∷ w) ∷ ws
     → (t ≡ false) × ((b ∷ q) ∷ qs ≡ (y ∷ w) ∷ ws)
 not_cut true x b q qs w ws y is = absurd cc

@@ -1,4 +1,4 @@
--- Facts about a list that is visited in groups of one length. The last group may overlap the one before.
+-- A list that is visited in groups of equal length. The last group may overlap the group before it.
 use Rattle.std.proofs.Common.{◌≡◌, ℕ, ◌+◌, ◌-◌, ◌≤◌, ◌&&◌, ◌||◌, Bool, true, false, List, [], ◌++◌, length, map, take, drop, refl, sym, ap, ◌∙◌, arith}
 use Rattle.std.specs.List.{list_all, list_any}
 use Rattle.std.proofs.Math.Seq.{take-add}
@@ -33,7 +33,8 @@ module _ {X : Type 0} (p : X → Bool) (xs : List X) (at last : ℕ) (order : la
   abbrev back : List X
   back = drop (at - last) (drop last xs)
 
-  -- all items of a list pass a test if and only if those before one index and those from an earlier index on do
+  -- all items of a list pass a test if and only if those before `at` and those from `last` on do, for `last`
+  -- up to `at`
   pub all_overlap : list_all p xs ≡ (list_all p (take at xs) && list_all p (drop last xs))
   all_overlap =
       let rest : list_all p (drop last xs) ≡ (list_all p middle && list_all p back) =
@@ -68,8 +69,8 @@ take_in_take n m xs order within =
     ∙ take-append-le n (take n xs) (take (m - n) (drop n xs)) (omega arith)
     ∙ take_all n (take n xs) (omega arith)
 
--- If the items of `old` before `at` are those of `xs`, they still are up to the end of a part that begins at or
--- before `at` and is overwritten with items of `xs`.
+-- Suppose `old` and `xs` agree before `at`. If a range of `old` that begins at or before `at` is overwritten
+-- with the same range of `xs`, the lists agree up to the end of the range.
 pub put_over : {X : Type 0} (xs old ys : List X) (at begin k : ℕ) → begin ≤ at → begin + k ≤ length xs → length old ≡ length xs
     → take at old ≡ take at xs → ys ≡ take k (drop begin xs) → take (begin + k) (put_mid begin k old ys) ≡ take (begin + k) xs
 put_over xs old ys at begin k order within size before here =
@@ -79,7 +80,7 @@ put_over xs old ys at begin k order within size before here =
     take-put_mid begin k old ys (begin + k) (omega arith) (omega arith)
     ∙ ap (λ zs. zs ++ ys) front ∙ ap (λ zs. take begin xs ++ zs) here ∙ sym (take-add begin k xs)
 
--- the same if the part ends at the end of the list
+-- if the range ends at the end of the lists, the result is `xs`
 pub put_over_last : {X : Type 0} (xs old ys : List X) (at begin k : ℕ) → begin ≤ at → begin + k ≡ length xs → length old ≡ length xs
     → take at old ≡ take at xs → ys ≡ take k (drop begin xs) → put_mid begin k old ys ≡ xs
 put_over_last xs old ys at begin k order end size before here =
@@ -90,6 +91,6 @@ put_over_last xs old ys at begin k order end size before here =
     ∙ put_over xs old ys at begin k order (omega arith) size before here
     ∙ take_all (begin + k) xs (omega arith)
 
--- a part of a list to which a function is applied
+-- mapping a function over a range of a list yields the same range of the mapped list
 pub part_of_map : {X Y : Type 0} (f : X → Y) (xs : List X) (begin k : ℕ) → map f (take k (drop begin xs)) ≡ take k (drop begin (map f xs))
 part_of_map f xs begin k = sym (take-map f k (drop begin xs)) ∙ ap (take k) (sym (drop-map f begin xs))

@@ -12,8 +12,8 @@ use Rattle.ucd.specs.Classes.{class_at, is_initiator, is_pdi, is_strong}
 use Rattle.bidi.specs.Base.{is_balanced, match_of, is_before, is_in_span, is_outside, strong_level, first_strong_level}
 use Rattle.bidi.proofs.LeastLemmas.{least_found, least_none, least_reaches, least_misses}
 
--- The height of an index is its value of `o` minus its value of `s`, and may be negative. The height of the
--- last lowest index up to k is d less than that of k.
+-- The height of an index m is `o m` minus `s m`, and may be negative. The last lowest index up to k is the
+-- last index up to k with the least height. Its height is d less than the height of k.
 pub record Lowest (o s : ℕ → ℕ) (k d : ℕ) : Type 0 where
   pub place : ℕ
   pub reached : place ≤ k

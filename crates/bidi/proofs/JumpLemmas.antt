@@ -94,7 +94,7 @@ first_strong_level-none s none =
     ap (option_map (λ m. strong_level (class_at s m)))
     (least_none (λ m. is_strong (class_at s m) && is_outside s m) 0 (length s) (λ m above below. none m (omega arith)))
 
--- if no range from the initiator at j to an index up to k is balanced, k is inside its isolate
+-- if no range from the initiator at j to an index up to k is balanced, k is inside the initiator's isolate
 module _ (s : List BidiClass) (j : ℕ) (within : j < length s) (opens : is_initiator (class_at s j) ≡ true) where
   spans : (k : ℕ) → j < k → ((m : ℕ) → j < m → m ≤ k → is_balanced s j m ≡ false) → is_outside s k ≡ false
   spans k after none =

@@ -46,8 +46,8 @@ module _ (is_cut : ℕ → ℕ → Bool) where
       ∙ join is_cut xs a (c ∷ []) (a ∷ c ∷ []) [] whole (onto is_cut a c [] (c ∷ []) [] no_cut refl)
       ∙ ap (λ t. t ∷ []) (sym text_is)
 
-  -- if a text is a single paragraph and there is a boundary between it and the text after it, it is the first paragraph
-  -- of the concatenated text
+  -- if `text` is a single paragraph and there is a boundary between its last character and c, `text` is the
+  -- first paragraph of `text ++ c ∷ more`
   pub split_before : (text more : List ℕ) (last : Option ℕ) (c a : ℕ) → last ≡ slice_get text (length text - 1) → SplitsAt is_cut text None
       → last ≡ Some a → is_cut a c ≡ true → (0 < length text) × (paragraphs is_cut (text ++ c ∷ more) ≡ text ∷ paragraphs is_cut (c ∷ more))
   split_before text more last c a at_end uncut last_is cut =

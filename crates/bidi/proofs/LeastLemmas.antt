@@ -48,7 +48,7 @@ least_misses p low (suc count) k fails =
           ]
     ]
 
--- No number below the least one passes. If there is no least one, no number of the range passes.
+-- No number of the range below the result passes. If the result is `None`, no number of the range passes.
 pub least_before : (p : ℕ → Bool) (low count end m : ℕ) → low + count ≡ end → low ≤ m → m < unwrap_or (least p low count) end → p m ≡ false
 least_before p low zero end m e from to = absurd (omega arith)
 least_before p low (suc count) end m e from to =
@@ -60,7 +60,7 @@ least_before p low (suc count) end m e from to =
       ]
     ]
 
--- the least number, if there is one, is in the range and passes
+-- the result, if it is not `None`, is in the range and passes
 pub least_passes : (p : ℕ → Bool) (low count end : ℕ) → low + count ≡ end → unwrap_or (least p low count) end < end
     → (low ≤ unwrap_or (least p low count) end) × (p (unwrap_or (least p low count) end) ≡ true)
 least_passes p low zero end e inside = absurd (omega arith)

@@ -24,7 +24,8 @@ length-put levels (place ∷ places) (value ∷ values) = length-put (set levels
 abbrev pub continued_at : List BidiClass → List (List ℕ) → ℕ → Bool
 continued_at classes earlier j = list_any (λ run. is_initiator (class_at classes (last_of run)) && is_match (match_of classes (last_of run)) j) earlier
 
--- A pass over the level runs that adds one sequence after the other to its result. `size` is kept.
+-- A pass over the level runs that adds one sequence after the other to its result. Adding a sequence does not
+-- change the `size` of the result.
 module _ {D : Type 0} (add : D → List ℕ → D) (size : D → ℕ) (keeps : (done : D) (sequence : List ℕ) → size (add done sequence) ≡ size done)
     (none all : D) (classes : List BidiClass) (levels : List ℕ) where
   -- The state of the pass at the run that begins at `start`. `flags` marks the start of each run in which an

@@ -94,7 +94,7 @@ reasons_filled kept sequence later old new are filled =
     ∙ ap (unwrap_or (option_map (reason_in kept sequence) (index_of sequence.places q)))
     (ap (λ l. get_or l q None) are ∙ get_or-map-range_with_len (resolved_in kept later) 0 (length kept) q q None within (omega arith)))
 
--- an initiator has a match if the list of matches has an index other than the length
+-- if an entry in the list of matches is below the length, it is the match
 some_below : (found : Option ℕ) (n : ℕ) → unwrap_or found n < n → Some (unwrap_or found n) ≡ found
 some_below None n below = absurd (omega arith)
 some_below (Some k) n below = refl
@@ -131,7 +131,7 @@ module _ (classes : List BidiClass) (p : ℕ) (within : p < length classes) wher
       ap (λ l. get_or l p None) are ∙ get_or-map-range_with_len (index_of (matches_of classes)) 0 (length classes) p p None within (omega arith)
       ∙ sym (cond-false (is_initiator (class_at classes p)) (match_of classes p) (index_of (matches_of classes) p) opens_not)
 
--- an index that is found is below the length
+-- an index that `index_from` finds is below k plus the length of the list
 pub index_below : (test : ℕ → Bool) (k : ℕ) (items : List ℕ) (q : ℕ) → index_from test k items ≡ Some q → q < k + length items
 index_below test k [] q e = absurd (cc)
 index_below test k (item ∷ items) q e =
@@ -140,7 +140,7 @@ index_below test k (item ∷ items) q e =
       | inr failed ↦ omega (arith, index_below test (suc k) items q (sym (cond-false (test item) (Some k) (index_from test (suc k) items) failed) ∙ e))
     ]
 
--- the levels of the reasons are the levels that they are made from
+-- the levels in the reasons are the given levels
 pub levels_listed : (classes acting : List BidiClass) (base : ℕ) (sequences : List Sequence) (levels : List ℕ) (n : ℕ) → length levels ≡ n
     → levels_in (map (level_reason classes acting base sequences levels) (range_with_len 0 n)) ≡ levels
 levels_listed classes acting base sequences levels n size =

@@ -26,7 +26,8 @@ pub record Opens (classes : List BidiClass) (k : ℕ) (stack found : List ℕ) :
   pub ahead : (i : ℕ) → k ≤ i → i < length classes → get_or found i 0 ≡ length classes
   pub passed : (i : ℕ) → i < k → ((m : ℕ) × (m < length stack) × (get_or stack m 0 ≡ i)) ⊎ (get_or found i 0 ≡ match_at classes i)
 
--- an initiator increases the count of initiators by one, a PDI that of PDIs, and any other character neither
+-- an initiator increases the count of initiators by one, a PDI increases the count of PDIs by one, and any
+-- other character increases neither count
 up : (classes : List BidiClass) (k : ℕ) → k < length classes → is_initiator (class_at classes k) ≡ true
     → (opened classes (k + 1) ≡ opened classes k + 1) × (closed classes (k + 1) ≡ closed classes k)
 up classes k within opens =

@@ -57,7 +57,7 @@ module _ (level : ℕ) (sos eos : BidiClass) where
   levels_after-is types = after-is 0 sos [] types refl
 
   module _ {types : List BidiClass} {levels : List ℕ} {before : BidiClass} {start at : ℕ} (so_far : AreLevelsSoFar level sos eos types levels before start at) (d : BidiClass) where
-    -- at a neutral, the pass writes no level
+    -- at a neutral, the state advances by one index without a change to the levels
     pub levels-row : at < length types → is_neutral (get_or types at d) ≡ true → AreLevelsSoFar level sos eos types levels before start (at + 1)
     levels-row within row =
         let order : start ≤ at = so_far.order in
@@ -162,7 +162,7 @@ other-value : (n : ℕ) (opposite : Bool) → n + (if opposite && false then 1 e
 other-value n true = omega arith
 other-value n false = omega arith
 
--- neutrals are not raised
+-- I1 and I2 do not raise the level of a neutral
 flat-even : (type : BidiClass) → is_neutral type ≡ true → rise_even type ≡ 0
 flat-even R e = absurd (cc)
 flat-even AN e = absurd (cc)
@@ -232,7 +232,8 @@ module _ (level : ℕ) (sos eos : BidiClass) {types : List BidiClass} {levels : 
             ∙ ap (λ xs. xs ++ replicate ((at + 1) - start) (raised level opposite)) (sym kept);
       }
 
-  -- at another type, the run of neutrals before it has its levels
+  -- at a type that is not neutral, if the levels of the run before it are final, the pass writes the level of
+  -- the type
   guessed-other : (put : List ℕ) (value : ℕ) (d : BidiClass) → at < length types → is_neutral (get_or types at d) ≡ false → length put ≡ length levels
       → take at put ≡ take now.start levels ++ replicate (at - now.start) (row_level level now.before (get_or types at d)) → value ≡ implicit_level level (get_or types at d)
       → AreGuessed level sos eos types (set put at value) (is_opposite level (get_or types at d)) (at + 1)

@@ -10,7 +10,7 @@ use Rattle.bidi.specs.declared.neutral_steps.NeutralStep.{NeutralStep}
 abbrev pub is_side : BidiClass → Bool
 is_side type = not (is_neutral type)
 
--- the step of a neutral, and of another type
+-- the step of a neutral, and the step of any other type
 abbrev pub step_between : BidiClass → BidiClass → Option ℕ → BidiClass → Option ℕ → NeutralStep
 step_between embedding before left after right = record {
   class = between embedding before after;

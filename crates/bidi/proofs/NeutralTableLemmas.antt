@@ -79,7 +79,7 @@ turn-bounded false false = omega arith
 pub turn-below : (level : ℕ) (class : BidiClass) → turn level class ≤ 2
 turn-below level class = turn-bounded (is_neutral class) (is_opposite level class)
 
--- a type is at most 1 above the neutrals next to it
+-- the level of a type is at most 1 above the level of the neutrals next to it
 even-bounded : (class : BidiClass) → rise_even class ≤ (if is_left class then 0 else 1) + 1
 even-bounded L = omega arith
 even-bounded R = omega arith

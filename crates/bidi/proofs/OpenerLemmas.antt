@@ -1,4 +1,4 @@
--- The opener that is named for a character has the level and override that apply to the character.
+-- The opener that `opener_at` finds for a character has the level and override that apply to the character.
 use Rattle.std.proofs.Common.{◌≡◌, ℕ, zero, suc, ◌+◌, ◌-◌, ◌<◌, ◌≤◌, ◌⊎◌, nat_lt, true, false, not, List, [], ◌∷◌, length, drop, Option, Some, None, if◌then◌else◌, refl, sym, subst, ap, ◌∙◌, inl, inr, arith, add-one}
 use Rattle.std.specs.List.{list_any, prefix_len}
 use Rattle.std.proofs.lemmas.Bool.{cond-true, cond-false, cases_Bool, cases_lt, lt-ltb, le-ltb, both_ways}
@@ -55,7 +55,7 @@ module _ (base : ℕ) where
         | inr v ↦ absurd (both_ways ((inside base (opener ∷ outer)).is_void) none (ap (λ (i : Inside). i.is_void) v.is))
       ]
 
-  -- the openers that do not overflow have the level and override of the whole chain
+  -- removing the openers that overflow does not change the level and override inside a chain
   live-inside : (chain : List BidiClass) → ((inside base (live chain)).level ≡ (inside base chain).level) × ((inside base (live chain)).override ≡ (inside base chain).override)
   live-inside [] = (refl, refl)
   live-inside (opener ∷ outer) =
@@ -138,7 +138,7 @@ module _ (base : ℕ) where
           ];
         }
 
-    -- the n-th open opener, for each n
+    -- for each n up to the depth, there is an n-th open opener that does not overflow
     pub nth : (k : ℕ) → k ≤ length classes → (n : ℕ) → 0 < n → n ≤ depth base (open_chain classes k) → (i : ℕ) × IsNth k n i
     nth zero within n some few = absurd (omega arith)
     nth (suc k) within n some few =
@@ -198,7 +198,8 @@ module _ (base : ℕ) where
     applies-before k n (Some i) e state =
         (state.0 ∙ ap (λ m. (inside base (open_chain classes m)).level) e, state.1 ∙ ap (λ m. (inside base (open_chain classes m)).override) e)
 
-    -- the opener that is named for a character has the level and override that apply to it
+    -- the opener that `opener_at` finds for a character has the level and override that apply to the
+    -- character
     pub opener_applies : (k : ℕ) → k < length classes → Applies base classes k (opener_at base classes k)
     opener_applies k within =
         let n : ℕ = if is_pdi (class_at classes k) then k + 1 else k in

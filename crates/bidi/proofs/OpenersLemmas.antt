@@ -129,7 +129,7 @@ module _ (base : ℕ) where
         ∙ ap (λ (x : Bool). cond void (innermost base outer) (entry_of (inside base (opener ∷ outer)) x)) i;
   }
 
-  -- an opener that gets its own level, and an opener that overflows
+  -- an opener that does not overflow, and an opener that overflows
   pub record IsEntered (opener : BidiClass) (outer : List BidiClass) : Type 0 where
     pub not_void : (inside base outer).is_void ≡ false
     pub fits : level_above opener (inside base outer).level ≤ 125
@@ -299,7 +299,7 @@ module _ (base : ℕ) where
           | inr live ↦ let none = none_void chain live in absurd (omega (arith, none.0, none.1, holds.overflowed_isolates_are, holds.overflowed_embeddings_are))
         ]
 
-    -- an opener that gets its own level is pushed on the stack
+    -- an opener that does not overflow is pushed on the stack
     pub Holds-entered : (opener : BidiClass) (status : Status) (level : ℕ) (overriding : Option BidiClass) (isolate : Bool) (entries : List Status)
         → openers.overflowed_isolates ≡ 0 → openers.overflowed_embeddings ≡ 0 → status ≡ innermost base chain
         → level ≡ level_above opener status.level → level ≤ 125 → overriding ≡ override_of opener → isolate ≡ is_initiator opener

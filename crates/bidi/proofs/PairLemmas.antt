@@ -142,8 +142,8 @@ lives-greatest live fit test (suc k) same =
           ∙ ap (λ (l : List ℕ). item_of l (greatest test (length l))) (sym e)
     ]
 
--- Let x be item m of the list of `live`. If `other` agrees with `live` below x and passes no number from x
--- on, its list is the first m items of that list.
+-- Let x be item m of the list of `live`. If `other` agrees with `live` below x and fails for each number from
+-- x on, the list of `other` is the first m items of the list of `live`.
 pub lives-cut : (live other : ℕ → Bool) (k m : ℕ) → m < length (lives live k)
     → ((i : ℕ) → i < get_or (lives live k) m 0 → other i ≡ live i) → ((i : ℕ) → get_or (lives live k) m 0 ≤ i → i < k → other i ≡ false)
     → lives other k ≡ take m (lives live k)

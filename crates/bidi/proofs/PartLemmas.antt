@@ -1,4 +1,5 @@
--- A property of all items of a list holds for the items at selected indices, and for parts of the list.
+-- A property of all items of a list holds for the items at selected indices, and for the items of a range of
+-- the list.
 use Rattle.std.proofs.Common.{◌≡◌, ℕ, ◌+◌, ◌-◌, ◌<◌, ◌≤◌, ◌&&◌, Bool, true, false, take, drop, refl, ap, arith, List, length, get_or, map, filter, slice_index, sym, subst, ◌∙◌, zero-add}
 use Rattle.std.specs.List.{list_all, range_with_len, All}
 use Rattle.std.proofs.Math.Seq.{take-add}
@@ -21,7 +22,7 @@ All-kept P items n test size all =
     let is : get_or (range_with_len 0 n) i d ≡ i = get_or-range_with_len 0 n i d below ∙ zero-add i in
     subst (λ (k : ℕ). P (slice_index items k)) (sym is) (all i 0 (subst (λ (k : ℕ). i < k) (sym size) below))))
 
--- all items up to a later index pass a test if and only if those before the earlier index and those between the two do
+-- all items before `end` pass a test if and only if those before `at` and those from `at` up to `end` do
 pub all_up_to : {X : Type 0} (p : X → Bool) (xs : List X) (at end : ℕ) → at ≤ end → list_all p (take end xs) ≡ (list_all p (take at xs) && list_all p (take (end - at) (drop at xs)))
 all_up_to p xs at end order =
     let sum : end ≡ at + (end - at) = omega arith in
@@ -39,7 +40,7 @@ first : (a b : Bool) → a ≡ false → (a && b) ≡ false
 first true b e = absurd (cc)
 first false b e = refl
 
--- a list with a part that fails a test fails it
+-- if not all items of a range pass a test, not all items of the list pass it
 pub all_fails : {X : Type 0} (p : X → Bool) (xs : List X) (at end : ℕ) → at ≤ end → list_all p (take (end - at) (drop at xs)) ≡ false → list_all p xs ≡ false
 all_fails p xs at end order here =
     let front : list_all p (take end xs) ≡ false =

@@ -50,7 +50,7 @@ first_some-none : (o : Option ℕ) → first_some o None ≡ o
 first_some-none (Some y) = refl
 first_some-none None = refl
 
--- a pair at the end of the list gives its brackets their partners if they have none, and changes no others
+-- appending a pair to the list makes its brackets partners if they had none, and changes no other partner
 partner-opener : (pairs : List Pair) (i j : ℕ) → partner_in pairs i ≡ None → partner_in (with_pair pairs i j) i ≡ Some j
 partner-opener pairs i j none =
     partner_in-with pairs i j i ∙ ap (λ o. first_some o (partner_of_pair i j i)) none ∙ cond-true (i == i) (Some j) (if j == i then Some i else None) (eq-eqb i i refl)
@@ -241,7 +241,7 @@ module _ (look : ℕ → Option Bracket) (text : List ℕ) (types : List BidiCla
       closer_by-some (before look text types end) (length types) end (ArePartnered-before end)
       (least_within (is_full look text types) 0 (length types) (length types) (omega arith)) a below
 
-  -- the partner of a bracket is in the sequence, and the opening bracket of the two has the other as its closing bracket
+  -- the partner of a bracket is in the sequence, and the later of the two brackets closes the earlier one
   pub record IsPartner (k j : ℕ) : Type 0 where
     pub within : j < length types
     pub closer : closer_of (pairs_of look text types) (min k j) ≡ Some (max k j)
@@ -347,7 +347,7 @@ module _ (look : ℕ → Option Bracket) (text : List ℕ) (types : List BidiCla
   pub length-partners : (k : ℕ) (openers : List Opener) (partners : List ℕ) → Pairing k openers partners → length partners ≡ length types
   length-partners k openers partners now = ap length now.partners_are ∙ length-partners_of (before look text types k) (length types)
 
-  -- the stack has an opening bracket at x if and only if the one there is live
+  -- the opening bracket at x is on the stack if and only if it is live
   open-map : (openers : List Opener) (x : ℕ) → is_open openers x ≡ list_any (λ i. i == x) (map (λ (o : Opener). o.index) openers)
   open-map [] x = refl
   open-map (o ∷ openers) x = ap (λ b. (o.index == x) || b) (open-map openers x)

@@ -79,7 +79,7 @@ pub none_are : (look : ℕ → Option Bracket) (text : List ℕ) (brackets : Lis
     → list_any is_bracket brackets ≡ false → All (λ c. look c ≡ None) text
 none_are look text brackets are none = none-by look text (ap (list_any is_bracket) (sym are) ∙ none)
 
--- if no character raises a level above the paragraph level, all levels equal it
+-- if no character raises a level above the paragraph level, all levels equal the paragraph level
 pub flat_levels : (look : ℕ → Option Bracket) (text : List ℕ) (classes : List BidiClass) (level : ℕ) → level ≤ 1 → list_all (is_flat_at level) classes ≡ true
     → paragraph_levels look text classes level ≡ replicate (length classes) level
 flat_levels look text classes zero low flat = same_levels true look text classes (all_from is_flat classes flat)

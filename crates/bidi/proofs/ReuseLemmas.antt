@@ -98,7 +98,7 @@ filter_all p (x ∷ xs) size =
           absurd (omega (arith, less, length-filter p xs, count_by-le-length p xs))
     ]
 
--- if X9 keeps as many classes as there are, it keeps all of them
+-- if the number of kept classes is the number of classes, X9 keeps all of them
 pub all_stay : (classes left : List BidiClass) → left ≡ map (class_at classes) (stayed classes) → length left ≡ length classes → left ≡ classes
 all_stay classes left are size =
     let n : ℕ = length classes in

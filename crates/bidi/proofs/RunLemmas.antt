@@ -92,7 +92,8 @@ module _ (levels : List ℕ) where
   run_end : (start : ℕ) → start < length levels → (end : ℕ) × IsRunEnd levels start end
   run_end start h = find_end (length levels - (start + 1)) (start + 1) start (omega arith) (omega arith) (λ m from to. absurd (omega arith))
 
--- the list of matches shows whether a run continues in the run that begins at j
+-- unless j is the length, j is the match of an initiator if and only if it is the entry in the list of
+-- matches
 is_match-unwrap : (o : Option ℕ) (j n : ℕ) → j ≢ n → is_match o j ≡ (unwrap_or o n == j)
 is_match-unwrap None j n ne = sym (ne_eqb n j (λ e. ne (sym e)))
 is_match-unwrap (Some m) j n ne = refl
@@ -113,7 +114,7 @@ match_at-above classes l within =
       | inr other ↦ rw (cond-false (is_initiator (class_at classes l)) (unwrap_or (match_of classes l) (length classes)) (length classes) other) within
     ]
 
--- the list of matches contains the match of the last character of a run
+-- the entry for the last character of a run in the list of matches is `match_at` for that character
 pub last_match : (classes : List BidiClass) (matches : List ℕ) (end len : ℕ) → matches ≡ matches_of classes
     → length classes ≡ len → 0 < end → end ≤ len → get_or matches (end - 1) 0 ≡ match_at classes (end - 1)
 last_match classes matches end len e size some within = ap (λ found. get_or found (end - 1) 0) e ∙ get_or-matches_of classes (end - 1) 0 (omega arith)

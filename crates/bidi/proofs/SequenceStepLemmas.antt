@@ -1,4 +1,4 @@
--- The steps of one sequence end in its levels.
+-- The steps of one sequence result in the levels of the sequence.
 use Rattle.std.proofs.Common.{◌≡◌, ℕ, suc, ◌+◌, ◌<◌, List, [], ◌∷◌, ◌++◌, map, length, drop, get_or, refl, sym, ap, ◌∙◌, Option, arith}
 use Rattle.std.proofs.lemmas.List.{append_assoc, drop_more}
 use Rattle.ucd.specs.declared.bidi_class.BidiClass.{BidiClass}
@@ -14,7 +14,7 @@ use Rattle.bidi.specs.Weak.{weak}
 use Rattle.bidi.specs.declared.bracket_steps.BracketStep.{BracketStep}
 use Rattle.bidi.specs.declared.neutral_steps.NeutralStep.{NeutralStep}
 
--- N1 and N2 step by step yield the types of N1 and N2
+-- applying N1 and N2 step by step yields the same types as `neutral_at` for each item
 classes_by : (embedding sos eos : BidiClass) (before types : List BidiClass)
     → map (λ (s : NeutralStep). s.class) (each_into (neutral_step embedding sos eos) before types) ≡ each_by (neutral_at embedding sos eos) before types
 classes_by embedding sos eos before [] = refl
@@ -25,7 +25,7 @@ levels_by : (level : ℕ) (sos : BidiClass) (types paired : List BidiClass) (bra
 levels_by level sos types paired bracket k [] = refl
 levels_by level sos types paired bracket k (step ∷ steps) = ap (λ xs. implicit_level level step.class ∷ xs) (levels_by level sos types paired bracket (suc k) steps)
 
--- the last level of each step is the level of the algorithm
+-- the levels in the steps of a sequence are the levels of the sequence
 pub steps_end : (look : ℕ → Option Bracket) (level : ℕ) (sos eos : BidiClass) (text : List ℕ) (types : List BidiClass)
     → levels_in (sequence_steps look level sos eos text types) ≡ sequence_levels look level sos eos text types
 steps_end look level sos eos text types =

@@ -36,7 +36,8 @@ leads_later xs ys k =
     (ap (λ i. get_or (xs ++ ys) i 0) one ∙ get_or-append-add xs ys (k + 1) 0)
     ∙ ap (λ c. may_lead (get_or ys k 0) (get_or ys (k + 1) 0) c) (ap (λ i. get_or (xs ++ ys) i 0) two ∙ get_or-append-add xs ys (k + 2) 0)
 
--- whether a separator may begin at k is the same in a part of the text that extends two bytes past k
+-- whether a separator may begin at `at + k` can be tested in a block that begins at `at` and extends two
+-- bytes past this index
 pub leads_within : (bytes : List ℕ) (at n k : ℕ) → k + 2 < n → leads_at (take n (drop at bytes)) k ≡ leads_at bytes (at + k)
 leads_within bytes at n k lt =
     let one : at + (k + 1) ≡ at + k + 1 = omega arith in

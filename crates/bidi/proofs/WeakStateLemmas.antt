@@ -28,7 +28,7 @@ other-row strong R e = absurd (cc)
 other-row strong AL e = absurd (cc)
 other-row strong _ e = refl
 
--- the first rows have no run
+-- the states of the first three rows have no run
 no-run : (row : ℕ) → row < 96 → run_at (row / 32) ≡ Nothing
 no-run row low =
     let first : row / 32 / 3 ≡ 0 = omega (arith, low) in
@@ -68,7 +68,7 @@ module _ (sos : BidiClass) (old current : List BidiClass) (before : BidiClass) (
       (subst (λ n. AreTypesSoFar sos old current before strong Nothing n at) (none-pending row start at low)
       (subst (λ r. AreTypesSoFar sos old current before strong r (pending (row / 32) start at) at) (no-run row low) read)))))
 
--- each type of a part is simple
+-- if all types of a range pass `is_simple`, so does the type at each index of the range
 pub simple-at : (types : List BidiClass) (at end k : ℕ) (d : BidiClass) → list_all is_simple (take (end - at) (drop at types)) ≡ true
     → at ≤ k → k < end → end ≤ length types → is_simple (get_or types k d) ≡ true
 simple-at types at end k d all from below within =

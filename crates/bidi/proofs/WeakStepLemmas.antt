@@ -1,4 +1,5 @@
--- The lists of types after each of W1 to W7, with what each rule looks back at carried along.
+-- The lists of types after each of W1 to W7, computed by passes that carry along what each rule looks back
+-- at.
 use Rattle.std.proofs.Common.{◌≡◌, ℕ, ◌≤◌, not, List, [], ◌++◌, drop, length, sym, ap, ◌∙◌}
 use Rattle.std.proofs.lemmas.List.{append-nil, at_drop_all}
 use Rattle.ucd.specs.declared.bidi_class.BidiClass.{BidiClass}
@@ -8,7 +9,7 @@ use Rattle.bidi.specs.Weak.{w1, w1_at, w2, w2_at, w4, w4_at, w5, w5_at, w7, w7_a
 use Rattle.bidi.specs.Waiting.{carry, digit_type, mark_type}
 use Rattle.bidi.proofs.WeakLemmas.{any, carry-is, ends_row, left_type, separator_type, terminator_type, w1-by, w2-by, w4-by, w5-by, w7-by}
 
--- at the end of a list, what a loop has found is the whole result
+-- if no items remain, the results so far are the whole result
 pub finished : {T U : Type 0} (rest : List T → List U) → rest [] ≡ [] → (done whole : List U) (items : List T) (k : ℕ)
     → length items ≤ k → done ++ rest (drop k items) ≡ whole → done ≡ whole
 finished rest nil done whole items k past e =

@@ -8,7 +8,7 @@ use Rattle.bidi.specs.declared.base.Base.TheVariants.{Rtl, Ltr, WeakRtl, WeakLtr
 use Rattle.ucd.specs.Classes.{class_at, is_initiator, is_pdi, is_strong}
 use Rattle.ucd.specs.Least.{least}
 
--- whether the range from i to j, inclusive, has as many isolate initiators as PDIs
+-- whether the range from i to j, inclusive, contains equal numbers of isolate initiators and PDIs
 abbrev pub is_balanced : List BidiClass → ℕ → ℕ → Bool
 is_balanced classes i j =
     let part = slice_range classes i (j + 1) in count_by is_initiator part == count_by is_pdi part
@@ -17,12 +17,12 @@ is_balanced classes i j =
 abbrev pub match_of : List BidiClass → ℕ → Option ℕ
 match_of classes i = least (is_balanced classes i) (i + 1) (length classes - (i + 1))
 
--- whether k is inside the isolate of the initiator at i: after the initiator, and before its match if it has
--- one
+-- whether k is before an initiator's match, if the initiator has one
 abbrev pub is_before : ℕ → Option ℕ → Bool
 is_before k (Some j) = nat_lt k j
 is_before k None = true
 
+-- whether k is inside the isolate of an initiator at i: after the initiator and before its match, if any
 abbrev pub is_in_span : List BidiClass → ℕ → ℕ → Bool
 is_in_span classes k i = is_initiator (class_at classes i) && (nat_lt i k && is_before k (match_of classes i))
 

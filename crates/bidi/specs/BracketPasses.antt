@@ -1,4 +1,5 @@
--- The passes that find what N0 does with each character: what each pass finds, and how the steps follow from that.
+-- The passes that find what N0 does with each character: the results of each pass, and the steps computed
+-- from these results.
 use Rattle.std.specs.Prelude.{◌≡◌, ℕ, zero, suc, ◌<◌, ◌==◌, nat_le, nat_lt, min, Bool, false, not, ◌&&◌, ◌||◌, List, length, map, slice_index, slice_index_or, slice_set, Option, Some, None, unwrap_or, if◌then◌else◌}
 use Rattle.std.specs.List.{list_any, range_with_len}
 use Rattle.ucd.specs.declared.bidi_class.BidiClass.{BidiClass}
@@ -15,7 +16,7 @@ use Rattle.bidi.specs.declared.bracket_steps.Decision.{Decision}
 use Rattle.bidi.specs.declared.bracket_type.BracketType.{BracketType}
 use Rattle.bidi.specs.declared.brackets.Opener.{Opener}
 
--- the partner of each bracket; for other characters, the length of the list
+-- the index of each character's partner, or the length of the list if the character has no partner
 abbrev pub partners_of : List Pair → ℕ → List ℕ
 partners_of pairs len = map (λ k. unwrap_or (partner_in pairs k) len) (range_with_len 0 len)
 
@@ -26,11 +27,12 @@ paired_by (Some m) openers partners place =
     slice_set (slice_set partners opener place) place opener
 paired_by None openers partners place = partners
 
--- whether the stack has an opening bracket at k
+-- whether the opening bracket at index k of the sequence is on the stack
 abbrev pub is_open : List Opener → ℕ → Bool
 is_open openers k = list_any (λ (o : Opener). o.index == k) openers
 
--- What the pass finds: the partners, the opening bracket at which pairing stopped, and the stack at that time.
+-- The results of the pass that pairs brackets: the partners, the opening bracket at which pairing stopped, if
+-- any, and the stack at that time.
 pub record ArePartners (look : ℕ → Option Bracket) (text : List ℕ) (types : List BidiClass) (openers : List Opener) (partners : List ℕ) (full : Option ℕ) : Type 0 where
   pub partners_are : partners ≡ partners_of (pairs_of look text types) (length types)
   pub full_is : full ≡ least (is_full look text types) 0 (length types)
@@ -41,7 +43,7 @@ abbrev pub closer_by : List ℕ → ℕ → Option ℕ
 closer_by partners k =
     if nat_lt k (slice_index partners k) && nat_lt (slice_index partners k) (length partners) then Some (slice_index partners k) else None
 
--- what N0 decides for the pair that opens at a, if one does
+-- what N0 decides for the pair that opens at a, given its closing bracket, if such a pair exists
 abbrev pub decision_by : Bool → BidiClass → List BidiClass → ℕ → Option ℕ → Decision
 decision_by left sos types a (Some b) = record { case = Some (pair_case left sos types a b); inside = deciding left types a b }
 decision_by left sos types a None = record { case = None; inside = None }
@@ -53,22 +55,24 @@ direction_in left C1 = Some (side (not left))
 direction_in left C2 = Some (side left)
 direction_in left case = None
 
--- Why a bracket has no pair, given its bracket type and its type. `full` is the bracket at which pairing stopped, and
--- `openers` the stack at that time.
+-- Whether the bracket at k has no pair because pairing stopped too early. `full` is the bracket at which
+-- pairing stopped, and `openers` is the stack at that time.
 abbrev pub is_past_by : List Opener → Option ℕ → ℕ → Bool
 is_past_by openers (Some full) k = nat_le full k || is_open openers k
 is_past_by openers None k = false
 
+-- why the bracket at k has no pair, given its bracket type and its type
 abbrev pub unpaired_by : List Opener → Option ℕ → BracketType → BidiClass → ℕ → Option BracketCase
 unpaired_by openers full kind type k =
     if is_bracket kind then Some (if is_other type then (if is_past_by openers full k then PastLimit else NoMatch) else NotOther) else None
 
--- whether k is a bracket of a pair
+-- whether the character at k is a bracket of a pair
 abbrev pub is_paired : List ℕ → ℕ → Bool
 is_paired partners k = nat_lt (slice_index partners k) (length partners)
 
--- The steps, given the partners and the decision for each opening bracket. `unpaired` is why the bracket at k has no
--- pair, and `held` the bracket with which N0 sets the type at k if the character there is a mark.
+-- The step of the character at k, given the partners and the decision for each opening bracket. `unpaired` is
+-- the reason why a bracket at k has no pair. `held` is the bracket with which N0 sets the type of a mark
+-- there.
 abbrev pub step_given : List ℕ → (ℕ → Decision) → Option BracketCase → Bool → Option ℕ → ℕ → BracketStep
 step_given partners decision unpaired mark held k =
     if is_paired partners k
@@ -79,8 +83,7 @@ step_given partners decision unpaired mark held k =
     }
     else record { case = unpaired; partner = if mark then held else None; inside = None }
 
--- The bracket with which N0 sets the type at k if the character there is a mark. `sets` says which brackets get a
--- direction.
+-- The bracket with which N0 sets the type of a mark at k. `sets` says which brackets get a direction.
 abbrev pub holder : (ℕ → Bool) → List Bool → ℕ → Option ℕ
 holder sets marks zero = None
 holder sets marks (suc k) = if sets k then Some k else (if slice_index_or marks k false then holder sets marks k else None)

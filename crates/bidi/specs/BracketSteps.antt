@@ -13,12 +13,12 @@ use Rattle.bidi.specs.declared.bracket_steps.BracketCase.{BracketCase}
 use Rattle.bidi.specs.declared.bracket_steps.BracketCase.TheVariants.{B, C1, C2, D, NotOther, NoMatch, PastLimit}
 use Rattle.bidi.specs.declared.bracket_steps.BracketStep.{BracketStep}
 
--- the index of the other bracket of the pair that has a bracket at k, if any
+-- the index of the other bracket of the pair to which a bracket at k belongs, if any
 abbrev pub partner_in : List Pair → ℕ → Option ℕ
 partner_in [] k = None
 partner_in (pair ∷ pairs) k = if pair.opener == k then Some pair.closer else (if pair.closer == k then Some pair.opener else partner_in pairs k)
 
--- N0: the case of the pair of the brackets at a and b
+-- N0: the case of the pair with brackets at a and b
 abbrev pub pair_case : Bool → BidiClass → List BidiClass → ℕ → ℕ → BracketCase
 pair_case left sos types a b =
     if stands left types a b then B
@@ -40,7 +40,7 @@ first_inside left types a b = least (λ k. is_toward left (class_at types k)) (a
 abbrev pub deciding : Bool → List BidiClass → ℕ → ℕ → Option ℕ
 deciding left types a b = if stands left types a b then first_inside left types a b else first_inside (not left) types a b
 
--- the types that result from the pairs that open before index a
+-- the types after the pairs that open before index a have been resolved
 abbrev pub resolved_before : BidiClass → BidiClass → List Bool → (ℕ → Option ℕ) → List BidiClass → ℕ → List BidiClass
 resolved_before embedding sos marks closer types a = fold (λ current i. pair_step embedding sos marks current i (closer i)) types (range_with_len 0 a)
 
@@ -63,7 +63,8 @@ module _ (bracket_of : ℕ → Option Bracket) (characters : List ℕ) (types : 
 
 -- N0 for each character: `explicit` holds the types before W1, and `types` the types before N0
 module _ (bracket_of : ℕ → Option Bracket) (embedding sos : BidiClass) (characters : List ℕ) (explicit types : List BidiClass) where
-  -- the types that decide about the pair that opens at a: those that result from the earlier pairs
+  -- the types from which N0 decides the case of the pair that opens at a: the types after the earlier pairs
+  -- have been resolved
   abbrev pub types_for : ℕ → List BidiClass
   types_for a = resolved_before embedding sos (map is_mark explicit) (closer_of (pairs_of bracket_of characters types)) types a
 
@@ -75,7 +76,8 @@ module _ (bracket_of : ℕ → Option Bracket) (embedding sos : BidiClass) (char
   abbrev pub case_at : ℕ → Option BracketCase
   case_at k = case_with k (partner_in (pairs_of bracket_of characters types) k)
 
-  -- the bracket with which N0 sets the type of the mark at k: the nearest such bracket before k
+  -- the bracket with which N0 sets the type of the mark at k: the nearest bracket before k that gets a
+  -- direction and is followed only by marks up to k
   abbrev pub set_by : ℕ → Option ℕ
   set_by k = greatest (λ p. has_direction (case_at p) && is_set_with (map is_mark explicit) p k) k
 

@@ -115,7 +115,8 @@ pair_direction left sos types a b =
     if stands left types a b then Some (side left)
     else (if stands (not left) types a b then Some (side (if agree left (is_left (context sos types a)) then left else not left)) else None)
 
--- whether k is the bracket at p, or one of the marks directly after it, whose types were NSM before W1
+-- whether k is the index p of a bracket, or the index of one of the marks directly after the bracket; the
+-- type of a mark was NSM before W1
 abbrev pub is_set_with : List Bool → ℕ → ℕ → Bool
 is_set_with marks p k = (p == k) || (nat_lt p k && list_all (λ mark. mark) (slice_range marks (p + 1) (k + 1)))
 

@@ -15,8 +15,8 @@ closers_of pairs len = map (λ i. unwrap_or (closer_of pairs i) len) (range_with
 abbrev pub closer_in : List ℕ → ℕ → Option ℕ
 closer_in closers i = if nat_lt (slice_index closers i) (length closers) then Some (slice_index closers i) else None
 
--- The opening bracket of each pair has type ON, and its closing bracket comes after it. Of two pairs, one is
--- before the other or inside it.
+-- The opening bracket of each pair has type ON, and its closing bracket comes after it. Of two pairs, either
+-- one is entirely before the other, or one is inside the other.
 pub record AreNested (types : List BidiClass) (closers : List ℕ) : Type 0 where
   pub other : (a : ℕ) → a < length closers → slice_index closers a < length closers → class_at types a ≡ ON
   pub after : (a : ℕ) → a < length closers → a < slice_index closers a
@@ -41,14 +41,14 @@ pub record AreInOrder (pairs : List BracketPair) (k : ℕ) : Type 0 where
 
 -- the live opening brackets during the pass that finds the pairs, the newest last
 
--- the index of an opener in the list of opening brackets
+-- the index that the opener at position m of the stack refers to
 abbrev pub index_of : List Opener → ℕ → ℕ
 index_of openers m = slice_index (map (λ (o : Opener). o.index) openers) m
 
 abbrev pub pair_of : List Opener → ℕ → ℕ
 pair_of openers m = slice_index (map (λ (o : Opener). o.pair) openers) m
 
--- the list index of the newest opener that the closing bracket c matches
+-- the position on the stack of the newest opener that the closing bracket c matches
 abbrev pub newest : List Opener → ℕ → Option ℕ
 newest openers c = greatest (λ m. canonical (pair_of openers m) == canonical c) (length openers)
 

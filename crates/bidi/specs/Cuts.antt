@@ -12,7 +12,7 @@ cut class_of before after =
     is_separator (class_of before) && not (before == 13 && (after == 10 && is_separator (class_of after)))
 
 -- The parts of a text between its boundaries. The first character joins the first part of the remaining text,
--- unless there is a boundary between them.
+-- unless there is a boundary after this character.
 abbrev pub paragraphs : (ℕ → ℕ → Bool) → List ℕ → List (List ℕ)
 paragraphs is_cut [] = []
 paragraphs is_cut (a ∷ []) = (a ∷ []) ∷ []
@@ -30,10 +30,10 @@ SplitsAt is_cut text (Some k) =
     (0 < k) × (k < length text) × (paragraphs is_cut text ≡ take k text ∷ paragraphs is_cut (drop k text))
 SplitsAt is_cut text None = 0 < length text → paragraphs is_cut text ≡ text ∷ []
 
--- in Unicode's files, a character is not a paragraph separator
+-- c is a code point that is not a paragraph separator in Unicode's data files
 abbrev pub MayNotSeparate : ℕ → Type 0
 MayNotSeparate c = (c < 1114112) × (may_separate c ≡ false)
 
--- in Unicode's files, none of the first n characters of a text is a paragraph separator
+-- none of the first n characters of a text is a paragraph separator in Unicode's data files
 abbrev pub AreNoSeparators : List ℕ → ℕ → Type 0
 AreNoSeparators text n = (k : ℕ) → k < n → MayNotSeparate (slice_index text k)

@@ -1,4 +1,4 @@
--- Characters next to others of the same kind.
+-- The levels of adjacent characters of the same kind.
 use Rattle.std.specs.Prelude.{◌≡◌, ℕ, zero, suc, Bool, true, false, List, [], ◌∷◌, ◌++◌, length, None, map}
 use Rattle.ucd.specs.Tables.{class_of, bracket_of}
 use Rattle.ucd.specs.declared.bidi_class.BidiClass.{BidiClass}

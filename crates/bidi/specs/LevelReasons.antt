@@ -1,5 +1,5 @@
--- How the algorithm arrives at the level of each character, as a list with one item for each character of the
--- paragraph and with positions in the paragraph (UAX #9).
+-- How the algorithm arrives at the level of each character (UAX #9): a list with one item for each character
+-- of the paragraph. Positions are indices in the paragraph.
 use Rattle.std.specs.Prelude.{ℕ, ◌==◌, not, List, [], ◌∷◌, length, map, slice_index, Option, None, option_map, unwrap_or, if◌then◌else◌}
 use Rattle.std.specs.List.{range_with_len, slice_get}
 use Rattle.std.specs.Option.{option_and_then}
@@ -51,7 +51,8 @@ reason_in kept sequence k = option_map (λ step. record {
   step = moved kept sequence.places step;
 }) (slice_get sequence.steps k)
 
--- the same for the character at index q of the kept characters, in the first sequence that contains it
+-- what the rules W1 to I2 do with the kept character at index q, in the first sequence that contains the
+-- character
 abbrev pub resolved_in : List ℕ → List Sequence → ℕ → Option SequenceReason
 resolved_in kept [] q = None
 resolved_in kept (sequence ∷ later) q = unwrap_or (option_map (reason_in kept sequence) (index_of sequence.places q)) (resolved_in kept later q)
@@ -76,6 +77,6 @@ level_reasons_of tables text base =
     map (level_reason classes (directed classes) level (sequences_by (bracket_of tables) text (directed classes) level) (levels_of tables text base))
     (range_with_len 0 (length text))
 
--- the levels of the characters
+-- the level in each reason
 abbrev pub levels_in : List LevelReason → List ℕ
 levels_in reasons = map (λ reason. reason.level) reasons

@@ -22,7 +22,7 @@ abbrev pub agree : Bool → Bool → Bool
 agree true other = other
 agree false other = not other
 
--- the type for a direction
+-- the type for a direction: L for `true`, or R for `false`
 abbrev pub side : Bool → BidiClass
 side true = L
 side false = R

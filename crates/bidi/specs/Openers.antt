@@ -59,8 +59,8 @@ IsInnermost openers status = (base : ℕ) (chain : List BidiClass) → Holds bas
 abbrev pub IsDepth : Openers → ℕ → Type 0
 IsDepth openers number = (base : ℕ) (chain : List BidiClass) → Holds base openers chain → number ≡ depth base chain
 
--- the indices of the openers that do not overflow, the outermost first, after the character at k, given their
--- number after it
+-- the indices of the openers that do not overflow, the outermost first, after the character at k; `depth` is
+-- the number of these openers
 abbrev pub updated : List ℕ → ℕ → ℕ → List ℕ
 updated indices depth k = if nat_lt (length indices) depth then indices ++ k ∷ [] else take depth indices
 

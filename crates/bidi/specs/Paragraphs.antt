@@ -39,7 +39,7 @@ pub record IsReady (p : Paragraph) : Type 0 where
 abbrev pub sequence_in : Paragraph → ℕ → List ℕ
 sequence_in p start = sequence_at p.stayed.now.classes.items p.stayed.now.levels.items start
 
--- the levels `done`, overwritten with those of the sequence that begins at `start`
+-- the levels `done`, after the levels of the sequence that begins at `start` have been written to them
 abbrev pub write_by : (ℕ → Option Bracket) → List ℕ → Paragraph → List ℕ → ℕ → List ℕ
 write_by look text p done start =
     put done (sequence_in p start)
@@ -58,8 +58,8 @@ pub record AreSidesBetween (p : Paragraph) (first last : ℕ) (sides : Sides) : 
 abbrev pub AreSides : Paragraph → List ℕ → Sides → Type 0
 AreSides p places sides = AreSidesBetween p (first_of places) (last_of places) sides
 
--- `sequence` is the one that begins at `start`, with its indices, bracket types and explicit types. The
--- sequence's current types are still the explicit types.
+-- `sequence` holds the indices, bracket types and explicit types of the sequence that begins at `start`. The
+-- current types in `sequence` are still the explicit types.
 pub record Takes (p : Paragraph) (start : ℕ) (sequence : Sequence) : Type 0 where
   pub places_are : sequence.places.items ≡ sequence_in p start
   pub within : AreWithin (length p.stayed.now.levels.items) sequence.places.items

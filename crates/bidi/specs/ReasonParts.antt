@@ -8,14 +8,14 @@ use Rattle.bidi.specs.LevelReasons.{index_of, resolved_in}
 use Rattle.bidi.specs.Reasons.{explicit_steps, index_from, Sequence}
 use Rattle.bidi.specs.Sequences.{stayed}
 
--- `new` is `old` after `value k` has been written at the item of index k, for each index from `from` on, the last
--- index first
+-- `new` is `old` after `value k` has been written at the index given by item k of `items`, for each k from
+-- `from` on in descending order
 pub record IsFilled {X : Type 0} (items : List ℕ) (value : ℕ → X) (old : List X) (from : ℕ) (new : List X) : Type 0 where
   pub size : length new ≡ length old
   pub each : (q : ℕ) (other : X) → q < length old
       → slice_index_or new q other ≡ unwrap_or (option_map value (index_from (λ item. item == q) from (drop from items))) (slice_index_or old q other)
 
--- all lists but `resolved` have an item for each character
+-- all lists except `resolved` have `len` items, one for each character
 pub record AreSized (len : ℕ) (parts : Parts) : Type 0 where
   pub classes : length parts.classes.now ≡ len
   pub matches : length parts.matches.now ≡ len

@@ -49,7 +49,7 @@ module _ {T : Type 0} (test : T → Bool) where
   index_from k [] = None
   index_from k (item ∷ after) = if test item then Some k else index_from (suc k) after
 
--- the results of a rule for each item of a list, with the arguments of `each_by`
+-- the result of a rule for each item of a list; the rule has the same arguments as in `each_by`
 abbrev pub each_into : {T U : Type 0} → (List T → T → List T → U) → List T → List T → List U
 each_into rule before [] = []
 each_into rule before (item ∷ after) = rule before item after ∷ each_into rule (item ∷ before) after
@@ -74,7 +74,7 @@ module _ (embedding sos eos : BidiClass) where
   abbrev pub neutral_steps : List BidiClass → List NeutralStep
   neutral_steps types = each_into neutral_step [] types
 
--- the results of a function for each item of a list and the item's index, counted from k
+-- the result of a function for each item of a list, given the index of the item, counted from k, and the item
 abbrev pub numbered : {T U : Type 0} → (ℕ → T → U) → ℕ → List T → List U
 numbered f k [] = []
 numbered f k (item ∷ items) = f k item ∷ numbered f (suc k) items

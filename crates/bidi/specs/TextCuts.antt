@@ -37,8 +37,8 @@ cuts_before is_cut _ _ = false
 abbrev pub BeginsAfter : (ℕ → ℕ → Bool) → Option ℕ → List ℕ → Bool → Type 0
 BeginsAfter is_cut last text begins = begins ≡ cuts_before is_cut last (chars text)
 
--- if `text` follows the characters `held`, the first paragraph of both is `held`, followed by the first n
--- bytes of `text`
+-- if `text` follows the characters `held`, the first paragraph of the joined text consists of `held` and the
+-- first n bytes of `text`
 pub record EndsAfter (is_cut : ℕ → ℕ → Bool) (held text : List ℕ) (n : ℕ) : Type 0 where
   pub within : n ≤ length text
   pub front : IsUtf8 (take n text)

@@ -6,7 +6,7 @@ use Rattle.bidi.specs.declared.weak_table.TheConstants.{LAST_ROW}
 use Rattle.bidi.specs.Waiting.{AreTypesSoFar, waits}
 use Rattle.bidi.specs.WeakTable.{pending, run_at, strong_at}
 
--- `row` is the start of a row of the tables, and the pending types, if there are any, start before `at`
+-- `row` is the start of a row of the tables, and the pending types, if there are any, start at or before `at`
 pub record IsState (row start at : ℕ) : Type 0 where
   pub within : row ≤ LAST_ROW
   pub starts : row % 32 ≡ 0

@@ -10,7 +10,7 @@ use Rattle.bidi.specs.declared.weak_table.TheConstants.{BEGINS, COMPLETES, KEEPS
 use Rattle.bidi.specs.Waiting.{completes, digit_type, lengthens, row_after, waits, written}
 use Rattle.bidi.specs.Weak.{is_left, w3_type}
 
--- the directions that may come before a sequence (sos)
+-- whether a type can be the type before a sequence (sos)
 abbrev pub is_side : BidiClass → Bool
 is_side L = true
 is_side R = true

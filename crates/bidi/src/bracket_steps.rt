@@ -43,8 +43,8 @@ pub enum BracketCase {
     NotOther,
     /// No other bracket of the sequence forms a pair with this one (BD16).
     NoMatch,
-    /// Pairing stopped at an opening bracket with 63 open ones before it (BD16), before this bracket was
-    /// paired.
+    /// Pairing stopped before this bracket was paired, at an opening bracket with 63 open ones before it
+    /// (BD16).
     PastLimit,
 }
 
@@ -53,11 +53,11 @@ pub enum BracketCase {
 pub struct BracketStep {
     /// The case that applies. `Some` for each character that is a bracket according to its bracket type.
     pub case: Option<BracketCase>,
-    /// For a bracket of a pair, the other bracket. For a nonspacing mark whose type N0 sets together with that
-    /// of a bracket, this bracket, which is the nearest one before the mark that gets a direction.
+    /// For a bracket of a pair, the other bracket. For a nonspacing mark whose type N0 sets, the bracket
+    /// before it whose direction the mark also gets.
     pub partner: Option<usize>,
     /// The strong type inside the pair that decides. In case B, this is the first one of the embedding
-    /// direction. In the cases C1 and C2, it is the first one.
+    /// direction. In cases C1 and C2, it is the first strong type.
     pub inside: Option<usize>,
 }
 
@@ -119,7 +119,7 @@ fn find_partners(
     Ok(None)
 }
 
-// Returns whether the stack has an opening bracket at an index.
+// Returns whether the opening bracket at an index of the sequence is on the stack.
 fn is_open(openers: &[Opener], k: usize) -> bool
     ensures { result ≡ is_open openers.now k }
 {
@@ -131,7 +131,7 @@ fn is_open(openers: &[Opener], k: usize) -> bool
     false
 }
 
-// Returns whether pairing stopped too early for the bracket at an index that has no pair.
+// Returns whether the unpaired bracket at `k` has no pair because pairing stopped too early.
 fn is_past(openers: &[Opener], full: Option<usize>, k: usize) -> bool
     ensures { result ≡ is_past_by openers.now full k }
 {
@@ -276,8 +276,8 @@ fn resolve_at(
     }
 }
 
-// Resolves the pairs in the order of their opening brackets. Returns what N0 decides for each of them. `types`
-// holds the types before N0, and then those after it.
+// Resolves the pairs in the order of their opening brackets. Returns what N0 decides for each of them.
+// `types` holds the types before N0, and then those after it.
 fn resolve_all(
     alloc: Global,
     types: &mut [BidiClass],

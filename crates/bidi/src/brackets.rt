@@ -24,8 +24,8 @@ use ucd::BidiClass;
 /// The maximum number of open brackets on the stack (BD16).
 pub(crate) const MAX_OPENERS: usize = 63;
 
-// An opening bracket on the stack: its index in the list of opening brackets, and the number of its bracket
-// type.
+// An opening bracket on the stack: its index, and the number of its bracket type. Here, the index refers to
+// the list of opening brackets; in `bracket_steps`, it refers to the sequence.
 #[derive(Clone, Copy, PartialEq, Eq)]
 pub(crate) struct Opener {
     pub index: usize,
@@ -240,8 +240,8 @@ fn resolve_brackets(
         (closer_in (closers_by pairs.now (length types.old))) types.old }
 {
     let left = is_left(embedding);
-    // For each direction, the index at which the search for a strong type continues. Before N0, there is no
-    // such type between the pair's opening bracket and this index.
+    // For each direction, the index at which the search for a strong type continues. In the types before N0,
+    // there is no strong type of this direction between the pair's opening bracket and the index.
     let mut same = 0;
     let mut other = 0;
     for pair in pairs {
@@ -310,8 +310,8 @@ fn pair_direction(
     }
 }
 
-// Returns the nearest strong type before an index, or `sos`. Called only for a pair that then becomes strong
-// itself, so the search for a later pair stops at that pair.
+// Returns the nearest strong type before an index, or `sos`. Called only for a pair that then gets a
+// direction, so the search for a later pair stops at this pair.
 pub(crate) fn strong_before(types: &[BidiClass], place: usize, sos: BidiClass) -> BidiClass
     requires { place ≤ length types.now }
     ensures { result ≡ context sos types.now place }
@@ -350,7 +350,7 @@ pub(crate) fn side(left: bool) -> BidiClass
     if left { BidiClass::L } else { BidiClass::R }
 }
 
-// Returns whether a type counts as strong in N0, where numbers do too.
+// Returns whether a type counts as strong in N0: a strong type or a number.
 fn is_direction(class: BidiClass) -> bool
     ensures { result ≡ is_direction class }
 {
@@ -360,7 +360,7 @@ fn is_direction(class: BidiClass) -> bool
     )
 }
 
-// Sets the types of a pair, if it has a direction.
+// Sets the types of a pair's brackets, and of the marks after them, if the pair has a direction.
 pub(crate) fn set_pair(
     types: &mut [BidiClass],
     explicit: &[BidiClass],

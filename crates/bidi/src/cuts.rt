@@ -20,7 +20,7 @@ pub fn is_cut(tables: &Tables, before: char, after: char) -> bool
     before != '\r' || after != '\n' || tables.bidi_class(after) != BidiClass::B
 }
 
-// Returns whether a character may end a paragraph, if the separators are the usual ones.
+// Returns whether a character may end a paragraph if the separators are those of Unicode's data files.
 fn may_separate(c: char) -> bool
     ensures { result ≡ false → MayNotSeparate c }
 {
@@ -52,8 +52,8 @@ fn first_separator(text: &[char]) -> usize
     at
 }
 
-// Returns the length of a prefix of the text that has no character that may end a paragraph. Long texts are
-// tested in blocks, and the last block may overlap the one before.
+// Returns the length of a prefix of the text in which no character may end a paragraph. Long texts are tested
+// in blocks, and the last block may overlap the one before.
 fn plain_len(text: &[char]) -> usize
     ensures within { result ≤ length text.now }
     ensures before { AreNoSeparators text.now result }

@@ -1,4 +1,4 @@
-//! Characters next to others of the same kind.
+//! The levels of adjacent characters of the same kind.
 ghost use Rattle.bidi.specs.Doubling.{DoublingKeepsLevels};
 
 /// States, as a theorem, that a character directly next to another one of the same class has the same level,

@@ -17,9 +17,9 @@ use ucd::BidiClass;
 pub struct ExplicitStep {
     /// The explicit level.
     pub level: u8,
-    /// The class after the rules.
+    /// The explicit type: the class after any override has been applied.
     pub class: BidiClass,
-    /// The direction of the override that the character is in, if it is directly in one.
+    /// The direction of the override that applies to the character, if any.
     pub overriding: Option<BidiClass>,
     /// The index of the innermost open embedding, override or isolate initiator that does not overflow. Its
     /// level and override apply to the character. A paragraph separator still has the paragraph level.
@@ -51,7 +51,7 @@ fn step_in(status: Status, opener: Option<usize>, class: BidiClass, base: u8) ->
     }
 }
 
-// Returns the last item.
+// Returns the last index, or `None` if the list is empty.
 fn last(indices: &[usize]) -> Option<usize>
     ensures { result ≡ (if length indices.now == 0 then None
         else Some (slice_index indices.now (length indices.now - 1))) }
@@ -62,8 +62,8 @@ fn last(indices: &[usize]) -> Option<usize>
     }
 }
 
-// Updates the indices of the open openers that do not overflow, given their number after the character at
-// `k`. The character opens at most one.
+// Updates the indices of the open openers that do not overflow. `depth` is the number of these openers after
+// the character at `k`, which opens at most one.
 fn update(indices: &mut Vec<usize>, depth: usize, k: usize) -> Result<(), AllocError>
     ensures { OnOk result (indices.new.items ≡ updated indices.old.items depth k) }
 {

@@ -1,5 +1,5 @@
-//! How the algorithm arrives at the level of each character (UAX #9), as a list with one item for each
-//! character of the paragraph and with positions in the paragraph.
+//! How the algorithm arrives at the level of each character (UAX #9): a list with one item for each character
+//! of the paragraph. Positions are indices in the paragraph.
 ghost use Rattle.std.specs.Prelude.{◌≡◌, ℕ, ◌<◌, List, length, map, not, option_map, slice_index};
 ghost use Rattle.std.specs.Prelude.{slice_index_or, IfOk, OnErr, if◌then◌else◌};
 ghost use Rattle.std.specs.List.{range_with_len};
@@ -35,14 +35,14 @@ pub struct SequenceReason {
     pub level: u8,
     pub sos: BidiClass,
     pub eos: BidiClass,
-    /// The types after each rule. All indices in it are positions in the paragraph.
+    /// The types after each rule. All indices in the step are positions in the paragraph.
     pub step: SequenceStep,
 }
 
 /// How the algorithm arrives at the level of a character. All positions are in the paragraph.
 #[derive(Clone, Copy)]
 pub struct LevelReason {
-    /// The class of the character. Unlike in `ParagraphReasons`, an FSI is FSI here.
+    /// The class of the character. Unlike in `ParagraphReasons`, an FSI is not replaced.
     pub class: BidiClass,
     /// What X1 to X8 do with the character.
     pub explicit: ExplicitStep,
@@ -52,8 +52,9 @@ pub struct LevelReason {
     pub level: u8,
     /// What W1 to I2 do with the character, or `None` if X9 removes it.
     pub resolved: Option<SequenceReason>,
-    /// If X9 removes the character, the kept character before it, whose level it takes. `None` if there is no
-    /// such character, so that it takes the paragraph level.
+    /// If X9 removes the character, the last kept character before it, which determines its level. `None` if
+    /// X9 keeps the character, or if no kept character is before it; a removed character then has the
+    /// paragraph level.
     pub level_from: Option<usize>,
 }
 
@@ -138,7 +139,8 @@ fn put_reasons(
     }
 }
 
-// Writes the index of each item of `items` to `list`, at the item. If an item occurs twice, the first counts.
+// Writes the index of each item of `items` to `list`, at the position that the item gives. If an item occurs
+// twice, its first index counts.
 fn put_indices(items: &[usize], list: &mut [Option<usize>])
     ensures { IsFilled items.now Some list.old 0 list.new }
 {
@@ -234,16 +236,16 @@ fn resolved_at(parts: &Parts<'_>, p: usize) -> Option<SequenceReason>
     }
 }
 
-// Returns the character whose level a character of the given class takes. `before` is the last kept character
-// before it.
+// Returns the character that determines the level of a character that X9 removes, or `None` for other
+// classes. `before` is the last kept character before the character.
 fn level_from(class: BidiClass, before: Option<usize>) -> Option<usize>
     ensures { result ≡ (if is_removed class then before else None) }
 {
     if is_removed(class) { before } else { None }
 }
 
-// Returns the last kept character up to the one at `p`, which has the given class. `before` is the last one
-// before it.
+// Returns the last kept character at or before `p`. `class` is the class of the character at `p`, and
+// `before` is the last kept character before `p`.
 fn last_kept(class: BidiClass, before: Option<usize>, p: usize) -> Option<usize>
     ensures { result ≡ (if not (is_removed class) then Some p else before) }
 {

@@ -24,7 +24,7 @@ pub(crate) fn resolve_neutral(
     requires bounded { level ≤ 125 }
     ensures { levels.new ≡ map (implicit_level level) (neutral (direction level) sos eos types.now) }
 {
-    // How far neutrals are raised between two types of the last direction.
+    // How far neutrals are raised if the next non-neutral type has the same direction as the last one.
     let mut rise = rise_beside(level, sos);
     let mut at = 0;
     while at < types.len() {

@@ -1,5 +1,6 @@
 //! The neutral rules (UAX #9, N1 and N2) for the types of one isolating run sequence, and what these rules
-//! read. They are for callers that show how the algorithm arrives at a level. `neutral` has the fast pass.
+//! read. This module is for callers that show how the algorithm arrives at a level. `neutral` has the fast
+//! pass.
 ghost use Rattle.std.specs.Prelude.{◌≡◌, ◌≤◌, drop, length, not, IfOk};
 ghost use Rattle.bidi.specs.Neighbours.{nearest};
 ghost use Rattle.bidi.specs.Neutral.{between, is_neutral};

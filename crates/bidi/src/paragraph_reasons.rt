@@ -26,8 +26,8 @@ use ucd::{BidiClass, Tables};
 pub struct ParagraphReasons {
     /// The class of each character. Each FSI is replaced by the LRI or RLI that it acts as (X5c).
     pub classes: Vec<BidiClass>,
-    /// For each character, the index of the PDI that matches the isolate initiator there (BD9), or the
-    /// length.
+    /// For each character, the index of the PDI that matches the isolate initiator there (BD9), or the length
+    /// if there is none.
     pub matches: Vec<usize>,
     /// What X1 to X8 do with each character.
     pub explicit: Vec<ExplicitStep>,

@@ -310,7 +310,7 @@ impl Sequence {
     }
 }
 
-// Marks the start of a run that continues another one.
+// Marks the start `next` of a run that continues an earlier run, if there is one.
 pub(crate) fn mark(continued: &mut [bool], next: Option<usize>)
     requires { IfSome next (λ place. place < length continued.old) }
     ensures { continued.new ≡ marked continued.old next }

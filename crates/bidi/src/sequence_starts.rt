@@ -11,7 +11,8 @@ use crate::sequences::{next_run, run_end};
 use std::alloc::{AllocError, Global};
 use ucd::BidiClass;
 
-// Appends where each sequence begins. `continued` must have a flag for each character, all of them `false`.
+// Appends the index at which each sequence begins. `continued` must have a flag for each character, all of
+// them `false`.
 fn push_starts(
     classes: &[BidiClass],
     levels: &[u8],
@@ -41,8 +42,8 @@ fn push_starts(
     Ok(())
 }
 
-/// Returns where each sequence begins, given the classes and levels of the characters that X9 keeps,
-/// and the matches of their isolate initiators.
+/// Returns the index at which each sequence begins, given the classes and levels of the characters that X9
+/// keeps, and the matches of their isolate initiators.
 pub fn sequence_starts(
     alloc: Global,
     classes: &[BidiClass],

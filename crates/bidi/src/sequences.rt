@@ -25,8 +25,8 @@ pub(crate) fn direction(level: u8) -> BidiClass
     }
 }
 
-/// Returns the end of the level run that begins at `start`: the first index after `start` with another level,
-/// or the length.
+/// Returns the end of the level run that begins at `start`: the first index after `start` with a different
+/// level, or the length.
 pub(crate) fn run_end(levels: &[u8], start: usize) -> usize
     requires { start < length levels.now }
     ensures { IsRunEnd levels.now start result }

@@ -72,7 +72,7 @@ fn first_end(tables: &Tables, text: &str, is_usual: bool) -> Option<usize>
 }
 
 // Returns the length in bytes of a prefix of the text in which no paragraph separator begins. The length is 0
-// if the separators are not the usual ones.
+// if `is_usual` is false.
 fn plain_len(text: &str, is_usual: bool) -> usize
     ensures boundary { IsCharBoundary text.now result }
     ensures plain { (k : ℕ) → k < result → leads_at text.now k ≡ false }

@@ -161,8 +161,8 @@ pub(crate) fn w3_type(class: BidiClass) -> BidiClass
     }
 }
 
-// Turns the pending types into numbers, or begins pending types at `at`. Returns where the pending types
-// start.
+// If `done` is `COMPLETES`, writes `value` to the pending types and returns `start`. Otherwise, returns `at`,
+// where new pending types start.
 #[inline(never)]
 fn act(types: &mut [BidiClass], start: usize, at: usize, done: u16, value: BidiClass) -> usize
     requires order { done ≡ COMPLETES → start ≤ at }

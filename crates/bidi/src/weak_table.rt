@@ -11,7 +11,7 @@ use ucd::BidiClass;
 /// The run that ends before an index.
 #[derive(Clone, Copy)]
 pub enum Row {
-    /// No type that W4 to W7 need to know about.
+    /// No run that affects how W4 to W7 change later types.
     Nothing,
     /// A European number.
     European,
@@ -30,7 +30,7 @@ pub enum Row {
 /// The type changes no pending type.
 pub const KEEPS: u16 = 0;
 
-/// The type is pending, and so are the types after it that join it.
+/// The type begins a run of pending types, which later types may join.
 pub const BEGINS: u16 = 1;
 
 /// The type turns the pending types into numbers (W4 and W5).

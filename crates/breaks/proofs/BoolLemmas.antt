@@ -58,13 +58,14 @@ is_no_less a b h = grind (arith, nat_tests)
 pub is_within : (a b : ℕ) → nat_le a b ≡ true → a ≤ b
 is_within a b h = grind (arith, nat_tests)
 
--- if 0 and all numbers in a list pass a test, so does the number at any index, which is 0 past the end
+-- if 0 and all items of a list pass a test, so does the item at any index, where the item past the end is 0
 pub passes_at : (test : ℕ → Bool) (xs : List ℕ) (k : ℕ) → test 0 ≡ true → list_all test xs ≡ true → test (get_or xs k 0) ≡ true
 passes_at test [] k default all = default
 passes_at test (x ∷ xs) zero default all = (both _ _ all).0
 passes_at test (x ∷ xs) (suc k) default all = passes_at test xs k default (both _ _ all).1
 
--- the entries of a table are below a number, or at most a number, if the computed test says so
+-- if a test of all entries is computed to be true, each entry of a table is below a limit, or at most the
+-- limit
 pub entries_below : (table : List ℕ) (limit : ℕ) → nat_lt 0 limit ≡ true → list_all (λ entry. nat_lt entry limit) table ≡ true
     → (place entry : ℕ) → entry ≡ get_or table place 0 → entry < limit
 entries_below table limit default tested place entry reads =
@@ -75,7 +76,7 @@ pub entries_within : (table : List ℕ) (limit : ℕ) → nat_le 0 limit ≡ tru
 entries_within table limit default tested place entry reads =
     is_within entry limit (ap (λ e. nat_le e limit) reads ∙ passes_at (λ e. nat_le e limit) table place default tested)
 
--- the part of a table that begins with a row has the row's entries
+-- an entry of a row is the entry at the same column of the table without the rows before that row
 pub entry_at : (table : List ℕ) (start row symbol entry : ℕ) → row ≡ start → entry ≡ get_or table (row + symbol) 0 → get_or (drop start table) symbol 0 ≡ entry
 entry_at table start row symbol entry begins reads =
     get_or-drop start table symbol 0 ∙ sym (reads ∙ ap (λ r. get_or table (r + symbol) 0) begins)

@@ -58,8 +58,8 @@ is_mark _ _ = false
 abbrev pub stays : ℕ → ℕ → Bool
 stays state symbol = is_one_of (CM ∷ ZWJ ∷ []) (shown symbol).class && not (is unattached (bases_at state))
 
--- whether the outcome of an entry has the same mark as the rules, given the results of their conditions before and
--- after
+-- whether the mark of an entry's outcome is the mark of the rules, given the results of the rules' conditions
+-- before and after the position
 module _ (whole_numbers : Bool) (answered : List Bool) (after digit_after : List Bool) (outcome : ℕ) where
   abbrev pub gives : List Bool → Bool → Bool → Bool → Bool
   gives after is_joined is_pictograph before_digit =
@@ -79,7 +79,7 @@ gives_each whole_numbers state symbol outcome =
     gives_all whole_numbers (answers whole_numbers (bases_at state)) (answers_after whole_numbers (shown symbol) false)
     (answers_after whole_numbers (shown symbol) true) outcome (is unattached (bases_at state))
 
--- the outcome can wait for the base after next only before OP
+-- the outcome can be `WAITS` only before OP
 abbrev pub waits_for_base : ℕ → ℕ → Bool
 waits_for_base symbol outcome = not (outcome == WAITS) || is_one_of (OP ∷ []) (shown symbol).class
 
@@ -133,7 +133,7 @@ module _ (whole_numbers : Bool) (heres after digit_after : List (List Bool)) whe
   abbrev pub is_right : List Bool → ℕ → ℕ → ℕ → ℕ → Bool
   is_right here state symbol row outcome = row_leads here state symbol row outcome (row / SYMBOL_COUNT)
 
-  -- the same for all symbols, given the entries from those of the state on
+  -- the same for all symbols, given the entries of the tables from the state's row on
   abbrev pub state_right : ℕ → List Bool → List ℕ → List ℕ → Bool
   state_right state here rows outcomes =
       all_below SYMBOL_COUNT (λ symbol. is_right here state symbol (get_or rows symbol 0) (get_or outcomes symbol 0))

@@ -87,17 +87,17 @@ flag value b = if b then value else 0
 abbrev pub index_of : Bits → ℕ
 index_of b = flag 8 b.is_joined + flag 4 b.is_pictograph + flag 2 b.is_wide + flag 1 b.was_wide
 
--- a character with another width; only the widths of CP and OP are part of their symbols
+-- a character with another width; symbols include the width only for CP and OP
 abbrev pub with_width : Character → Bool → Character
 with_width c is_wide = record c { is_wide = is_wide }
 
 abbrev pub may_have : Character → Bool → Bool
 may_have c is_wide = not (is_one_of (CP ∷ OP ∷ []) c.class) || same c.is_wide is_wide
 
--- Whether the outcome of an entry has the same mark as the rules. `befores` are the results of the conditions on the
--- bases before the position, for each value of the bits. `after` are those on a character of each width and the example
--- bases after it, and `marks` are the marks of each outcome before these examples. A character can be a ZWJ that joins
--- the last base only if characters may join that base.
+-- Whether the mark of an entry's outcome is the mark of the rules. `befores` are the results of the
+-- conditions on the bases before the position, for each value of the bits. `after` are the results for a
+-- character of each width followed by the example bases. `marks` are the marks of each outcome before these
+-- examples. The last character can be a ZWJ only if characters may join the last base.
 module _ (befores : List (List Bool)) (by_row : List Mark) (after : Bool → ℕ → List Bool) (marks : ℕ → List Mark) (outcome : ℕ) (is_unattached asked : Bool) (c_is_wide : Bool) where
   abbrev pub gives_bits : List Bool → List Mark → ℕ → Bool
   gives_bits after marks index =
@@ -128,8 +128,9 @@ befores_at state = befores_from (answers_17 (bases_at_17 state))
 abbrev pub stays_17 : ℕ → ℕ → Bool
 stays_17 state symbol = is_one_of (CM ∷ ZWJ ∷ []) (shown_17 symbol).class && not (is unattached (bases_at_17 state))
 
--- The results that many entries share: those of the conditions on the example bases of each state, and on a character
--- of each symbol and width before each example of the bases after it, and the marks before these examples.
+-- The results that many entries share: the conditions on the example bases of each state (`heres_17`), and
+-- the conditions on a character of each symbol followed by each example of the bases after it (`afters_17`).
+-- `rest_marks_17` has the marks of all outcomes before each example.
 unfoldable pub heres_17 : List (List Bool)
 heres_17 = map answers_17 states_17
 
@@ -190,7 +191,7 @@ module _ (heres : List (List Bool)) (by_row : List Mark) (narrow_after wide_afte
   abbrev pub is_right_17 : List (List Bool) → ℕ → ℕ → ℕ → ℕ → Bool
   is_right_17 befores state symbol row outcome = row_leads_17 befores state symbol row outcome (row / SYMBOL_COUNT)
 
-  -- the same for all symbols, given the entries from those of the state on
+  -- the same for all symbols, given the entries of the tables from the state's row on
   abbrev pub state_right_17 : ℕ → List (List Bool) → List ℕ → List ℕ → Bool
   state_right_17 state befores rows outcomes =
       all_below SYMBOL_COUNT (λ symbol. is_right_17 befores state symbol (get_or rows symbol 0) (get_or outcomes symbol 0))
@@ -206,7 +207,8 @@ module _ (heres : List (List Bool)) (by_row : List Mark) (narrow_after wide_afte
 abbrev pub part : ℕ → Bool
 part k = right_by_17 heres_17 marks_by_row_17 (afters_17 false) (afters_17 true) rest_marks_17 k
 
--- the same, with the shared results computed for each entry
+-- whether an entry is correct, with the results for its two states computed instead of read from the shared
+-- list
 abbrev pub leads_17 : Bool → ℕ → ℕ → ℕ → ℕ → Bool
 leads_17 stay state symbol outcome next =
     leads_by_17 heres_17 marks_by_row_17 (afters_17 false) (afters_17 true) rest_marks_17 stay (befores_at state) (answers_17 (bases_at_17 next)) state symbol outcome next
@@ -276,7 +278,8 @@ abbrev pub answers_by : ℕ → Character → ℕ → Bool → Bool
 answers_by question c answer before_digit =
     is_mark (mark_of_17 question (alone c ∷ digit_or_none before_digit)) (mark_of_17 answer (digit_or_none before_digit))
 
--- whether an answer is a mark, or the question `LB25_IS` after a base to which marks can be attached
+-- whether an answer is a mark, or the question `LB25_IS` after a base to which combining marks can be
+-- attached
 abbrev pub is_answer : Character → ℕ → Bool
 is_answer c answer = nat_lt answer 4 || (not (is_one_of unattached c.class) && (answer == LB25_IS))
 

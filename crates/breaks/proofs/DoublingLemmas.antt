@@ -58,7 +58,7 @@ module _ (v : Version) (whole_numbers : Bool) (Like : List Base → List Base �
   like_marks p q [] like = refl
   like_marks p q (b ∷ rest) like = rw (doubles.like_mark b p q rest like, like_marks (b ∷ p) (b ∷ q) rest (doubles.like_more b p q like)) refl
 
-  -- the first base of the text from c on, and the others
+  -- the characters attached to c, and the bases after the base of c
   attached : List Character
   attached = (first_base c after).0
 
@@ -72,7 +72,7 @@ module _ (v : Version) (whole_numbers : Bool) (Like : List Base → List Base �
   twice : bases_of (c ∷ c ∷ after) ≡ alone c ∷ begun_by c attached ∷ others_after
   twice = rw (begins_alone c c free) (ap (λ bases. alone c ∷ bases) once)
 
-  -- the marks before the two characters are the same as before one
+  -- doubling c does not change the marks before c
   same_ahead : (last : Base) (others : List Base) (front : List Character)
       → mark_by rs (last ∷ others) (bases_of (front ++ c ∷ c ∷ after)) ≡ mark_by rs (last ∷ others) (bases_of (front ++ c ∷ after))
   same_ahead last others front =
@@ -84,7 +84,7 @@ module _ (v : Version) (whole_numbers : Bool) (Like : List Base → List Base �
   mark_inside : (others : List Base) → mark_by rs (alone c ∷ others) (bases_of (c ∷ after)) ≡ mark
   mark_inside others = ap (mark_by rs (alone c ∷ others)) once ∙ doubles.between attached others others_after
 
-  -- the marks after the two characters are the same as after one
+  -- the marks after the second c are the same as after a single c
   from_base : (others : List Base) → marks_after rs (alone c ∷ others) (begun_by c attached ∷ others_after) ≡ marks_after rs others (begun_by c attached ∷ others_after)
   from_base others =
       rw (

@@ -19,9 +19,10 @@ use Rattle.breaks.proofs.StepLemmas.{answers_same, carried_same, marked, pair_af
 abbrev pub begun_by : Character → List Character → Base
 begun_by c attached = record { first = c; attached = attached }
 
--- Conditions on the rules under which the character c can be doubled, with this mark between the two. `Like` relates two lists of bases
--- that the rules do not distinguish after another base. Marks before the two characters do not change (`ahead`), and neither does the
--- mark after the base of the second character (`here`). Later marks do not change because the bases before them are alike.
+-- Conditions on the rules under which the character c can be doubled, with this mark between the two. `Like`
+-- relates two lists of bases that the rules do not distinguish if another base follows. Marks before the two
+-- characters do not change (`ahead`), and neither does the mark after the base of the second character
+-- (`here`). Later marks do not change because the bases before them are related by `Like`.
 pub record Doubles (rs : List Rule) (Like : List Base → List Base → Type 0) (c : Character) (mark : Mark) : Type 0 where
   pub ahead : (last : Base) (before front : List Base) (attached : List Character) (after : List Base)
       → mark_by rs (last ∷ before) (front ++ alone c ∷ begun_by c attached ∷ after) ≡ mark_by rs (last ∷ before) (front ++ begun_by c attached ∷ after)

@@ -14,7 +14,7 @@ use Rattle.breaks.proofs.StepLemmas.{odd_after}
 use Rattle.breaks.specs.declared.bases.Base.{Base as Found}
 use Rattle.breaks.specs.declared.bases.Character.{Character as Looked}
 
--- the base of a character and the first n characters of some text, and the bases after it
+-- the base of c and the first n characters of a text, followed by the bases of the remaining text
 abbrev parted : Character → List Character → ℕ → List Base
 parted c text n = record { first = c; attached = take n text } ∷ bases_of (drop n text)
 
@@ -28,7 +28,8 @@ bases_from c (d ∷ text) =
     ] in
     by (stays_with c d)
 
--- the bases found so far and those of the remaining characters are the same before and after one more base is found
+-- finding one more base does not change the list of the bases found so far and the bases of the remaining
+-- characters
 pub found_more : (done : List Found) (b : Found) (rest : List Looked) (n : ℕ)
     → n ≡ attached_len (character_in b.first) (map character_in rest) → b.attached.now ≡ take n rest
     → map base_in (done ++ b ∷ []) ++ bases_of (map character_in (drop n rest)) ≡ map base_in done ++ bases_of (map character_in (b.first ∷ rest))
@@ -52,7 +53,7 @@ last_found c (a ∷ b ∷ attached) d some =
     let next : suc (length (b ∷ attached) - 1) ≡ length (a ∷ b ∷ attached) - 1 = omega arith in
     last_found (character_in a) (b ∷ attached) d (omega arith) ∙ ap (λ k. character_in (get_or (a ∷ b ∷ attached) k d)) next
 
--- ---- the bases before a later position: one more, and those of `found`
+-- ---- the bases before the next position: the base b, and the bases in `found`
 
 module _ (all : List Found) (b : Base) (found : List Found) (more : map base_in all ≡ b ∷ map base_in found) where
   abbrev bases : List Base

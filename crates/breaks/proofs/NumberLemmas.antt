@@ -188,7 +188,7 @@ some_unaffixed OP back = fronts_begin is_unaffixed OP back ∙ some_digits back
 some_unaffixed HY back = fronts_begin is_unaffixed HY back ∙ some_digits back
 some_unaffixed class back = fronts_begin is_unaffixed class back ∙ any_none (fronts back)
 
--- the classes of prefixes are the prefixes of the classes
+-- the prefixes of a list of bases have the same classes as the prefixes of the list of the bases' classes
 fronts_map : (bases : List Base) → map (λ front. classes_of front) (fronts bases) ≡ fronts (classes_of bases)
 fronts_map [] = refl
 fronts_map (b ∷ bases) =

@@ -34,7 +34,7 @@ pub ordinary_by_17 : (symbol : ℕ) (p : Properties) (joiner pictograph : Bool) 
     → joiner ≡ (symbol == JOINER) → pictograph ≡ p.is_future_pictograph → (not joiner && not pictograph) ≡ is_ordinary_17 p
 ordinary_by_17 symbol p joiner pictograph lt shows joined is = rw (joined ∙ is_joiner_17 symbol lt ∙ ap (λ d. is_same d.class ZWJ) shows, is) refl
 
--- an ordinary walk, with another value of whether the last character is a ZWJ
+-- a state of the walk in which the last base is not a future pictograph
 walk_with : ℕ → Bool → Bool → Bool → Walk17
 walk_with row joined wide was_wide = record { row = row; is_joined = joined; is_pictograph = false; is_wide = wide; was_wide = was_wide }
 
@@ -72,7 +72,7 @@ begins_ordinary_17 walk symbol next_row outcome decided p lt shows reads_row rea
     (passes_begin_17 (full_walk walk) symbol next_row outcome decided false (begins_wide p) c lt shows reads_row reads_outcome begin
     (sym is.no_pictograph) refl decides last others stands)
 
--- the same holds for any walk with this row, last character and character before it
+-- `begins_ordinary_17`, stated for any state `new` that has these values
 pub begun_ordinary_17 : (walk new : OrdinaryWalk17) (symbol next_row outcome decided : ℕ) (p : Properties) → symbol < SYMBOL_COUNT
     → shown_17 symbol ≡ told_17 (character_by V17_0 p) → next_row ≡ get_or NEXT_ROWS (walk.row + symbol) 0 → outcome ≡ get_or OUTCOMES (walk.row + symbol) 0
     → (outcome == STAYS) ≡ false → is_ordinary_17 p ≡ true → decided ≡ decided_17 outcome (bits_in (full_walk walk)) (begins_wide p)

@@ -88,7 +88,7 @@ given whole_numbers state symbol outcome true is_pictograph before_digit free ea
 abbrev pub Leads : Bool → ℕ → ℕ → ℕ → ℕ → Type 0
 Leads whole_numbers state symbol next_row outcome = Next SYMBOL_COUNT STATE_COUNT next_row (leads whole_numbers (stays state symbol) state symbol outcome)
 
--- the entry is correct if the table is, given the results that its entries share
+-- if the table passes its test, given the results that the entries share, each entry is correct
 entry_of : (whole_numbers : Bool) (heres after digit_after : List (List Bool)) (state symbol row next_row outcome : ℕ) → state < STATE_COUNT → symbol < SYMBOL_COUNT
     → row ≡ state * SYMBOL_COUNT → next_row ≡ get_or NEXT_ROWS (row + symbol) 0 → outcome ≡ get_or OUTCOMES (row + symbol) 0
     → right_by whole_numbers heres after digit_after ≡ true
@@ -117,7 +117,7 @@ entry_is_right whole_numbers state symbol row next_row outcome state_lt symbol_l
     (entry_of whole_numbers (befores whole_numbers) (afters whole_numbers false) (afters whole_numbers true) state symbol row next_row outcome
     state_lt symbol_lt begins reads_row reads_outcome (table_is whole_numbers))
 
--- the entry is correct for a character that begins a base
+-- what a correct entry says about a character that begins a base
 record Begins (whole_numbers : Bool) (state symbol outcome next : ℕ) : Type 0 where
   answered : answers whole_numbers (alone (shown symbol) ∷ bases_at state) ≡ answers whole_numbers (bases_at next)
   carries : carried (alone (shown symbol) ∷ bases_at state) ≡ carried (bases_at next)
@@ -266,8 +266,8 @@ opening_attaches class h = cc
 told_class : (symbol : ℕ) (c : Character) → shown symbol ≡ told c → (shown symbol).class ≡ c.class
 told_class symbol c shows = ap (λ d. d.class) shows
 
--- The first base of a text and the bases after it. If the outcome depends on them, they are those of the characters
--- that do not join the first one.
+-- The first base of a text and the bases after it. If the outcome depends on the later bases, they are the
+-- bases of the text without the characters that join the first base.
 record Reads (whole_numbers : Bool) (decided : ℕ) (c : Character) (text : List Character) : Type 0 where
   attached : List Character
   rest : List Base
@@ -288,7 +288,7 @@ reads whole_numbers symbol outcome c text is_joined is_pictograph shows waits =
           record { attached = first.0; rest = first.1; bases = first.2; alike = waits_or_not whole_numbers outcome is_joined is_pictograph _ _ other }
     ]
 
--- before a character that begins a base, the outcome has the mark of the rules
+-- if the next character begins a base, the mark of the outcome is the mark of the rules
 marks_begun : (whole_numbers : Bool) (walk : Walk15) (last : Base) (others : List Base)
     (stands : Stands whole_numbers walk last others) (symbol next_row outcome : ℕ) (c : Character) (text : List Character)
     → shown symbol ≡ told c → Leads whole_numbers stands.state symbol next_row outcome → stays stands.state symbol ≡ false
@@ -421,6 +421,6 @@ passes_as walk symbol next_row outcome c is_pictograph decided symbol_lt shows r
 pub row_within : (place next_row : ℕ) → place < ENTRY_COUNT → next_row ≡ get_or NEXT_ROWS place 0 → next_row ≤ LAST_ROW
 row_within place next_row lt = entries_within NEXT_ROWS LAST_ROW refl rows_are_within place next_row
 
--- the outcome in each entry is one of the eight
+-- the outcome in each entry is one of the eight outcomes
 pub outcome_below : (place outcome : ℕ) → place < ENTRY_COUNT → outcome ≡ get_or OUTCOMES place 0 → outcome < 8
 outcome_below place outcome lt = entries_below OUTCOMES 8 refl outcomes_are_within place outcome

@@ -43,7 +43,7 @@ part_is (suc (suc (suc (suc (suc (suc (suc n))))))) lt = absurd (omega arith)
 abbrev pub Leads17 : ℕ → ℕ → ℕ → ℕ → Type 0
 Leads17 state symbol next_row outcome = Next SYMBOL_COUNT STATE_COUNT next_row (leads_17 (stays_17 state symbol) state symbol outcome)
 
--- the entry is correct if the table is, given the results that its entries share
+-- if the table passes its test, given the results that the entries share, each entry is correct
 entry_of_17 : (heres : List (List Bool)) (by_row : List Mark) (narrow wide : List (List (List Bool))) (marks : List (List Mark))
     (state symbol row next_row outcome : ℕ) → state < STATE_COUNT → symbol < SYMBOL_COUNT
     → row ≡ state * SYMBOL_COUNT → next_row ≡ get_or NEXT_ROWS (row + symbol) 0 → outcome ≡ get_or OUTCOMES (row + symbol) 0
@@ -71,12 +71,12 @@ entry_is_right_17 state symbol row next_row outcome state_lt symbol_lt begins re
     (entry_of_17 heres_17 marks_by_row_17 (afters_17 false) (afters_17 true) rest_marks_17 state symbol row next_row outcome
     state_lt symbol_lt begins reads_row reads_outcome (part_is (state / 7) (omega arith)))
 
--- whether the outcome has the marks of the rules, given the results that the entries share
+-- whether the marks of the outcome are those of the rules, given the results that the entries share
 abbrev pub given_by_17 : (befores : List (List Bool)) (symbol outcome : ℕ) (is_unattached : Bool) → Character → Bool
 given_by_17 befores symbol outcome is_unattached c =
     gives_17 befores marks_by_row_17 (λ is_wide. after_in is_wide (by_is_wide (afters_17 false) (afters_17 true) is_wide) symbol) (marks_in rest_marks_17) outcome is_unattached c
 
--- the entry is correct for a character that begins a base
+-- what a correct entry says about a character that begins a base
 record Begins17 (state symbol outcome next : ℕ) : Type 0 where
   answered : answers_17 (alone (shown_17 symbol) ∷ bases_at_17 state) ≡ answers_17 (bases_at_17 next)
   carries : carried_17 (alone (shown_17 symbol) ∷ bases_at_17 state) ≡ carried_17 (bases_at_17 next)
@@ -158,7 +158,7 @@ attached_17 walk last others stands symbol next_row outcome c symbol_lt shows en
 
 -- ---- the bases after the next one
 
--- the results of all conditions on them
+-- the results of all conditions on the bases after the next one
 unfoldable pub facts : List Base → List Bool
 facts rest = or_edge (is after_final) rest ∷ is (NU ∷ []) rest ∷ or_edge is_not_east_asian rest ∷ is_stop_digit rest ∷ is (VF ∷ []) rest ∷ []
 
@@ -232,7 +232,7 @@ module _ (p q : List Base) (alike : facts p ≡ facts q) where
   unfolding rows_17 rows_before_numbers rows_of_numbers rows_after_numbers
   after_alike c attached = rw (final, digit, narrow, stop, vowel) refl
 
--- if no rule depends on what follows a character, the results are the same whatever follows
+-- a character for which no rule reads the bases after it is neither QU, IS nor OP, nor a letter of LB28a
 asks_nothing : (class : LineClass) (circle : Bool) → (is_one_of (AK ∷ AS ∷ IS ∷ OP ∷ QU ∷ []) class || circle) ≡ false
     → (is_same (base_class class) QU ≡ false) × (is_one_of (QU ∷ []) (base_class class) ≡ false) × (is_one_of (IS ∷ []) (base_class class) ≡ false)
     × (is_one_of (OP ∷ []) (base_class class) ≡ false) × ((is_one_of (AK ∷ AS ∷ []) (base_class class) || circle) ≡ false)
@@ -250,7 +250,7 @@ after_any c attached rest h =
     let no = asks_nothing c.class (is_dotted_circle (alone c)) h in
     rw (no.0, no.1, no.2, no.3, no.4) refl
 
--- marks can join a character if a rule depends on what follows it
+-- combining marks can join a character if a rule reads the bases after it
 asked_attaches : (class : LineClass) (detail : LineDetail)
     → (is_one_of (AK ∷ AS ∷ IS ∷ OP ∷ QU ∷ []) class || (is_same class AL && is_detail detail DottedCircle)) ≡ true → is_one_of unattached class ≡ false
 asked_attaches AK detail h = refl
@@ -271,7 +271,7 @@ same_mark (suc (suc (suc (suc n)))) p q lt = let below : suc (suc (suc (suc n)))
 
 -- ---- the outcomes
 
--- the index of some bits, and what is computed for it
+-- the index of the bits b is valid, and the shared results at that index are those for b
 abbrev AtBits : ℕ → Bits → Type 0
 AtBits state b =
     (nat_lt (index_of b) 16 ≡ true) × (bits_at (index_of b) ≡ b)
@@ -316,7 +316,7 @@ module _ (befores : List (List Bool)) (by_row : List Mark) (after : Bool → ℕ
       (below (kinds_after c) (λ kind. gives_rest befores by_row after marks outcome is_unattached (asks c) wide (after wide kind) (marks kind)) (with_given_width wide may h) place lt)
       index index_lt
 
--- the shared list for a width
+-- the shared list for a width has the results for a character of that width
 after_of_17 : (is_wide : Bool) (symbol kind : ℕ)
     → after_in is_wide (by_is_wide (afters_17 false) (afters_17 true) is_wide) symbol kind ≡ answers_after_17 (with_width (shown_17 symbol) is_wide) (rest_at kind)
 after_of_17 true symbol kind = after_at_17 true symbol kind
@@ -326,7 +326,7 @@ unjoined : (is_unattached is_joined : Bool) → (is_joined ≡ true → is_unatt
 unjoined is_unattached true free = ap (λ b. b && true) (free refl)
 unjoined is_unattached false free = and_false is_unattached
 
--- the outcome of an entry has the mark of the rules before each example of the bases after the next one
+-- the mark of an entry's outcome is the mark of the rules, for each example of the bases after the next one
 given_17 : (state symbol outcome : ℕ) (b : Bits) (wide : Bool) (place : ℕ)
     → AtBits state b
     → may_have (shown_17 symbol) wide ≡ true
@@ -349,7 +349,7 @@ given_17 state symbol outcome b wide place here may free gives lt =
     let parts = both _ _ (rw (unjoined un b.is_joined free) at said) in
     (parts.0, is_mark_is _ _ parts.1)
 
--- before a character that begins a base, the outcome has the mark of the rules
+-- if the next character begins a base, the mark of the outcome is the mark of the rules
 module _ (walk : Walk17) (last : Base) (others : List Base) (stands : Stands17 walk last others) (symbol next_row outcome : ℕ) (c : Character)
     (shows : shown_17 symbol ≡ told_17 c) (entry_leads : Leads17 stands.state symbol next_row outcome) (begun : stays_17 stands.state symbol ≡ false) where
   free : (bits_in walk).is_joined ≡ true → is unattached (bases_at_17 stands.state) ≡ false

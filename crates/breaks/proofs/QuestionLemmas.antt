@@ -28,7 +28,7 @@ digit_class CM h = cc
 digit_class ZWJ h = cc
 digit_class class h = refl
 
--- the symbol shows whether the next base is NU
+-- the next base is NU if and only if the symbol of its first character is `DIGIT`
 next_digit : (symbol : ℕ) (c : Character) (text : List Character) → symbol < SYMBOL_COUNT → symbol < ATTACHED → shown symbol ≡ told c
     → (symbol == DIGIT) ≡ is (NU ∷ []) (bases_after (c ∷ text))
 next_digit symbol c text within before shows =

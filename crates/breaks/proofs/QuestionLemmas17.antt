@@ -33,7 +33,7 @@ digit_is : (before_digit : Bool) → is (NU ∷ []) (digit_or_none before_digit)
 digit_is true = refl
 digit_is false = refl
 
--- an answer depends on the bases after it only through whether the next one is NU
+-- the mark of an answer depends on the later bases only through whether the nearest one is NU
 same_answer : (c : Character) (answer : ℕ) (rest : List Base) → is_answer c answer ≡ true
     → mark_of_17 answer (digit_or_none (is (NU ∷ []) rest)) ≡ mark_of_17 answer rest
 same_answer c answer rest h =
@@ -107,7 +107,8 @@ answer_said question symbol answer result c ge lt begins begin shows reads equal
       ],
     )
 
--- a question before the next character is answered by the mark or the question of the table
+-- the answer to a question, given the next character, is the entry in the table, adjusted to the character's
+-- width
 pub answered : (question symbol answer result : ℕ) (c : Character) → LB15B ≤ question → question < DECIDED_COUNT → symbol < SYMBOL_COUNT → symbol < ATTACHED
     → shown_17 symbol ≡ told_17 c → answer ≡ get_or ANSWERS ((question - LB15B) * SYMBOL_COUNT + symbol) 0 → result ≡ by_width answer c.is_wide
     → ((text : List Character) → mark_of_17 question (bases_after (c ∷ text)) ≡ mark_of_17 result (bases_after text)) × (result < DECIDED_COUNT)

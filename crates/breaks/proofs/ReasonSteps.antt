@@ -1,4 +1,4 @@
--- One more base, with the reasons after its characters.
+-- The reasons so far are still correct after those of one more base have been appended.
 use Rattle.std.proofs.Common.{◌≡◌, ℕ, suc, ◌+◌, ◌-◌, ◌<◌, false, slice_index_or, Option, List, [], ◌∷◌, ◌++◌, drop, get_or, length, map, reverse, take, refl, sym, ap, ap₂, ◌∙◌, append_assoc, arith}
 use Rattle.std.proofs.Math.Seq.{drop-append-add, drop-append_seam}
 use Rattle.std.proofs.lemmas.List.{drop-drop, drop_more, get_or_default, get_or-drop, get_or-map, length-append, length-drop, length-map, length-reverse, reverse-append, take-append-drop, take_more}

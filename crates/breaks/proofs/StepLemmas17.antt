@@ -163,7 +163,7 @@ pub carried_attached_17 : (last : Base) (others : List Base) (attached : List Ch
     → carried_17 (record { first = last.first; attached = attached } ∷ others) ≡ carried_17 (last ∷ others)
 carried_attached_17 last others attached = carried_alike (record { first = last.first; attached = attached }) last others refl refl refl refl refl
 
--- ---- what the conditions read of a character: only a QU and an AL have details
+-- ---- what the conditions read of a character: only QU and AL have details
 
 abbrev told_detail : LineClass → LineDetail → LineDetail
 told_detail class detail = if is_one_of (QU ∷ AL ∷ []) class then detail else Plain
@@ -204,7 +204,8 @@ opening_told OP true = refl
 opening_told OP false = refl
 opening_told class wide = refl
 
--- the conditions on the bases after a position read the character there in the same way, and the width of its base
+-- the conditions on the bases after a position depend on the character there only through its symbol and the
+-- width of its base
 pub answers_after_told_17 : (c : Character) (rest : List Base)
     → answers_after_17 c rest ≡ answers_after_17 (with_width (told_17 c) (is_east_asian (alone c))) rest
 unfolding rows_17 rows_before_numbers rows_of_numbers rows_after_numbers

@@ -23,7 +23,7 @@ pub is_not_attached_17 : (symbol : ℕ) → symbol < SYMBOL_COUNT → nat_lt sym
 is_not_attached_17 symbol lt =
     same_is _ _ (below SYMBOL_COUNT (λ x. same (nat_lt x ATTACHED) (not (is_one_of (CM ∷ ZWJ ∷ []) (shown_17 x).class))) attached_are_last_17 symbol lt)
 
--- the symbol and the width of its character show whether a base that begins with it is wide
+-- a base that begins with a character is wide if and only if the character is wide and is neither CM nor ZWJ
 pub wide_by_symbol : (c : Character) (symbol : ℕ) (is_wide : Bool) → symbol < SYMBOL_COUNT → shown_17 symbol ≡ told_17 c → is_wide ≡ c.is_wide
     → (is_wide && nat_lt symbol ATTACHED) ≡ is_east_asian (alone c)
 wide_by_symbol c symbol is_wide lt shows wide =

@@ -103,8 +103,8 @@ begins_walk v whole_numbers all rest p is = rw is (walk_from_start v whole_numbe
 pub one_longer : {X : Type 0} (text : List X) (x : X) (rest : List X) (marks : List Mark) → length marks ≡ length text → text ≡ x ∷ rest → length marks ≡ length rest + 1
 one_longer text x rest marks len is = omega (arith, ap length is)
 
--- The state belongs to the bases so far, as `stands` says. The marks so far, followed by the marks of the recursion, are the
--- marks of the whole text.
+-- `stands` relates the state to the bases so far. The marks so far, followed by the marks of the recursion,
+-- are the marks of the whole text.
 abbrev pub Walks : List Rule → (Base → List Base → Type 0) → List Mark → List Character → List Mark → Type 0
 Walks rules stands marks text whole =
     (last : Base) × (others : List Base) × stands last others × (marks ++ walk rules others last text ≡ whole)
@@ -128,7 +128,7 @@ module _ {X : Type 0} (read : X → Character) (rest : List X) (whole : List Mar
   here : (i : ℕ) (x : X) → i < length rest → x ≡ get_or rest i x → drop i rest ≡ x ∷ drop (i + 1) rest
   here i x lt reads = at_drop_more (λ xs. xs) rest i x lt ∙ ap (λ y. y ∷ drop (i + 1) rest) (sym reads)
 
-  -- one step of the walk writes the mark at its index
+  -- `Walks` still holds after one step of the walk has written the mark at index i
   pub steps : (before after : Base → List Base → Type 0) (mark_of : List Base → Mark) (i : ℕ) (x : X) (marks new : List Mark) (mark : Mark)
       → i < length rest → x ≡ get_or rest i x → Walks rules before (take i marks) (map read (drop i rest)) whole
       → ((last : Base) (others : List Base) → before last others → Passes rules mark_of after last others (read x))
@@ -150,7 +150,8 @@ module _ {X : Type 0} (read : X → Character) (rest : List X) (whole : List Mar
       (omega (arith, length-set marks (length rest) Must)) in
       sym all_of_it ∙ written ∙ ap (λ n. take n marks ++ Must ∷ []) (sym last_place) ∙ rw none at so_far
 
--- Reading on for a question: `asked` is the mark of the question at a character, given the bases after the next one.
+-- Reading ahead to answer a question: `asked` is the mark of the question, given the bases after the next
+-- one.
 module _ {X : Type 0} (read : X → Character) (rest : List X) where
   -- reading one more character turns the question `asked` into the question `answer`
   pub asks_on : (asked answer : List Base → Mark) (i : ℕ) (x : X) (whole : Mark) → i < length rest → x ≡ get_or rest i x
@@ -162,7 +163,7 @@ module _ {X : Type 0} (read : X → Character) (rest : List X) where
   pub ends_asking : (asked : List Base → Mark) (i : ℕ) → length rest ≤ i → asked (bases_after (map read (drop i rest))) ≡ asked []
   ends_asking asked i ge = ap (λ xs. asked (bases_after (map read xs))) (drop_all i rest ge)
 
--- the recursion finds a mark for each position
+-- the recursion finds one mark after `last` and one after each character of the text
 length-walk : (rs : List Rule) (others : List Base) (last : Base) (text : List Character) → length (walk rs others last text) ≡ suc (length text)
 length-walk rs others last [] = refl
 length-walk rs others last (c ∷ text) =

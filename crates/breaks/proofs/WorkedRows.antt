@@ -138,7 +138,7 @@ in_parentheses : marks_by (PR ∷ OP ∷ NU ∷ CP ∷ PO ∷ []) ≡ Never ∷ 
 unfolding rules rows_before_numbers rows_of_numbers rows_after_numbers
 in_parentheses = refl
 
--- LB25 is applied as rules on pairs of bases, and with whole numbers
+-- LB25 as rules on pairs of bases, and with whole numbers
 opened_price : (marks_by (PR ∷ OP ∷ NU ∷ []) ≡ Never ∷ Never ∷ Must ∷ []) × (whole_marks_by (PR ∷ OP ∷ NU ∷ []) ≡ Never ∷ Never ∷ Must ∷ [])
 unfolding rules rows_before_numbers rows_of_numbers rows_after_numbers
 opened_price = (refl, refl)
@@ -221,7 +221,7 @@ future_modifier : marks (pictograph ID ∷ narrow EM ∷ []) ≡ Never ∷ Must 
 unfolding rules rows_before_numbers rows_of_numbers rows_after_numbers
 future_modifier = refl
 
--- a doubled character: the mark between the two is added
+-- doubling a character adds only the mark between the two
 doubled_space : marks_by (OP ∷ SP ∷ SP ∷ AL ∷ []) ≡ insert (marks_by (OP ∷ SP ∷ AL ∷ [])) 1 (mark_between SP)
 unfolding rules rows_before_numbers rows_of_numbers rows_after_numbers
 doubled_space = refl

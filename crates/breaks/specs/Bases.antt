@@ -45,7 +45,7 @@ pub record Character : Type 0 where
   pub is_wide : Bool
   pub is_future_pictograph : Bool
 
--- the character with code point c, with its properties in the tables
+-- the character with code point c and its properties from the tables
 abbrev pub character : Tables → ℕ → Character
 character t c = record {
   class = resolved (known t.version (line_class_of t c)) (is_mark_in t c);
@@ -68,8 +68,8 @@ stays_with before c =
 abbrev pub alone : Character → Base
 alone c = record { first = c; attached = [] }
 
--- Adds a character before some bases. The character forms a base of its own, or becomes the first character of the
--- first base.
+-- Adds a character in front of a list of bases. The character becomes the new first character of the first
+-- base, or the only base if the list is empty.
 abbrev pub joined : Character → List Base → List Base
 joined c [] = alone c ∷ []
 joined c (b ∷ bases) = record { first = c; attached = b.first ∷ b.attached } ∷ bases

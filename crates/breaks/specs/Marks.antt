@@ -7,7 +7,7 @@ use Rattle.breaks.specs.declared.mark.Mark.{Mark}
 use Rattle.breaks.specs.declared.mark.Mark.TheVariants.{Never}
 
 -- The marks after the characters of some bases: `Never` inside a base (LB9), and the mark that the rules
--- determine after each base. `before` holds the bases before these, nearest first.
+-- determine after each base. `before` holds the preceding bases, nearest first.
 abbrev pub marks_after : List Rule → List Base → List Base → List Mark
 marks_after rules before [] = []
 marks_after rules before (b ∷ after) =

@@ -34,8 +34,8 @@ abbrev pub is_nothing : List LineClass → Bool
 is_nothing [] = true
 is_nothing (class ∷ rest) = false
 
--- Whether a list of classes matches the end of the expression, from some part on. The definition for the last part comes
--- first. No optional or repeated part shares a class with a part that can follow it, so each part can match greedily.
+-- Whether a list of classes matches a suffix of the expression, from the shortest suffix to the longest. No
+-- optional or repeated part shares a class with a part that can follow it, so each part can match greedily.
 abbrev pub is_end : List LineClass → Bool
 is_end classes = is_nothing (after_one affix classes)
 
@@ -58,7 +58,8 @@ abbrev pub fronts : {A : Type 0} → List A → List (List A)
 fronts [] = []
 fronts (a ∷ rest) = (a ∷ []) ∷ map (λ front. a ∷ front) (fronts rest)
 
--- whether some bases directly before a position, the nearest first, and some directly after it form a number
+-- whether one or more bases directly before a position, nearest first, and one or more directly after it form
+-- a number
 abbrev pub is_in_number : List Base → List Base → Bool
 is_in_number before after =
     list_any (λ front. list_any (λ back. is_number (map class_of (reverse front ++ back))) (fronts after)) (fronts before)

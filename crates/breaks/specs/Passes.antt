@@ -11,11 +11,11 @@ use Rattle.breaks.specs.Symbols.{character_by}
 use Rattle.breaks.specs.declared.mark.Mark.{Mark}
 use Rattle.breaks.specs.declared.mark.Mark.TheVariants.{Never}
 
--- the last base after the next character has joined it
+-- the last base, with the next character attached
 abbrev pub with_attached : Base → Character → Base
 with_attached last c = record { first = last.first; attached = last.attached ++ c ∷ [] }
 
--- the bases in these characters, without the leading characters that join the base before them
+-- the bases of a text, without the leading CMs and ZWJs that join the base before the text
 abbrev pub bases_after : List Character → List Base
 bases_after [] = []
 bases_after (c ∷ text) = if is_one_of (CM ∷ ZWJ ∷ []) c.class then bases_after text else bases_of (c ∷ text)

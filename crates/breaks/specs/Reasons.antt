@@ -13,7 +13,7 @@ use Rattle.breaks.specs.declared.line_rule.LineRule.{LineRule}
 use Rattle.breaks.specs.declared.line_rule.LineRule.TheVariants.{LB3, LB4, LB5, LB6, LB7, LB8, LB8a, LB9, LB11, LB12, LB12a, LB13, LB14, LB15, LB15a, LB15b, LB15c, LB15d, LB16, LB17, LB18, LB19, LB19a, LB20, LB20a, LB21, LB21a, LB21b, LB22, LB23, LB23a, LB24, LB25, LB26, LB27, LB28, LB28a, LB29, LB30, LB30a, LB30b, LB31}
 use Rattle.breaks.specs.declared.reason.Reason.{Reason}
 
--- ---- The names of the rules, one for each row of Rules.antt. A list of names is named after its list of rows.
+-- ---- The names of the rules, one for each row of Rules.antt. Each list's name says which rules it covers.
 
 abbrev pub names_LB3_to_LB12 : List LineRule
 names_LB3_to_LB12 = LB3 ∷ LB4 ∷ LB5 ∷ LB5 ∷ LB6 ∷ LB7 ∷ LB8 ∷ LB8a ∷ LB11 ∷ LB11 ∷ LB12 ∷ []
@@ -86,7 +86,7 @@ abbrev pub chars_in : List Base → ℕ
 chars_in [] = 0
 chars_in (b ∷ bases) = chars_in bases + (length b.attached + 1)
 
--- where the nearest of some bases starts, if there are any
+-- the index of the first character of the nearest base, if there is one
 abbrev pub start_of : List Base → Option ℕ
 start_of [] = None
 start_of (b ∷ bases) = Some (chars_in bases)
@@ -95,7 +95,7 @@ start_of (b ∷ bases) = Some (chars_in bases)
 abbrev pub next_class : List Base → Option LineClass
 next_class bases = option_map class_of (slice_get bases 0)
 
--- the reason for the mark after the base b, which is the nearest base of `before`, given the bases after it
+-- the reason for the mark after the base b, given the bases before and after b
 abbrev pub reason_at : List LineRule → List Rule → Base → List Base → List Base → Reason
 reason_at names rules b before after = record {
   rule = unwrap_or (first_by names rules (b ∷ before) after) LB31;
@@ -106,7 +106,8 @@ reason_at names rules b before after = record {
   mark = mark_by rules (b ∷ before) after;
 }
 
--- The reasons inside a base that starts at a position: after a character, and after each attached character but the last.
+-- the reasons for the marks inside a base that starts at `start`: after the character c, and after each
+-- character attached to the base after c, except the last
 abbrev pub reasons_inside : ℕ → LineClass → Option ℕ → Character → List Character → List Reason
 reasons_inside start class behind c [] = []
 reasons_inside start class behind c (d ∷ attached) =
@@ -119,13 +120,13 @@ reasons_inside start class behind c (d ∷ attached) =
       mark = Never;
     } ∷ reasons_inside start class behind d attached
 
--- the reasons after the characters of a base, given the bases before and after it
+-- the reasons for the marks after the characters of a base, given the bases before and after it
 abbrev pub base_reasons : List LineRule → List Rule → Base → List Base → List Base → List Reason
 base_reasons names rules b before after =
     reasons_inside (chars_in before) (class_of b) (start_of (without_spaces (b ∷ before))) b.first b.attached
     ++ reason_at names rules b before after ∷ []
 
--- the reasons after the characters of some bases, given the bases before them
+-- the reasons for the marks after the characters of some bases, given the bases before them
 abbrev pub reasons_after : List LineRule → List Rule → List Base → List Base → List Reason
 reasons_after names rules before [] = []
 reasons_after names rules before (b ∷ after) = base_reasons names rules b before after ++ reasons_after names rules (b ∷ before) after

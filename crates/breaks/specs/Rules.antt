@@ -77,26 +77,26 @@ abbrev pub without_spaces : List Base → List Base
 without_spaces [] = []
 without_spaces (b ∷ bases) = if is_same (class_of b) SP then without_spaces bases else b ∷ bases
 
--- whether the nearest base that is not a space has one of the classes, which the rules write as the class followed by
--- `SP*`
+-- whether the nearest base that is not a space has one of the classes; UAX #14 writes this condition as the
+-- class followed by `SP*`
 abbrev pub is_spaced : List LineClass → List Base → Bool
 is_spaced classes bases = is classes (without_spaces bases)
 
--- whether the bases meet the condition after any spaces, which the rules write as `SP*`
+-- whether the bases without the nearest spaces meet the condition; UAX #14 writes these spaces as `SP*`
 abbrev pub spaced : (List Base → Bool) → List Base → Bool
 spaced condition bases = condition (without_spaces bases)
 
--- whether the nearest base meets `first`, and the bases beyond it meet `others`
+-- whether there is a nearest base that meets `first`, and the bases beyond it meet `others`
 abbrev pub followed : (List Base → Bool) → (List Base → Bool) → List Base → Bool
 followed first others [] = false
 followed first others (b ∷ bases) = first (b ∷ bases) && others bases
 
--- whether there are no bases, or the nearest one meets the condition: the rules list `sot` or `eot` among its classes
+-- whether the condition holds or there are no bases; for rules that list `sot` or `eot` as well as classes
 abbrev pub or_edge : (List Base → Bool) → List Base → Bool
 or_edge condition [] = true
 or_edge condition (b ∷ bases) = condition (b ∷ bases)
 
--- whether there is a nearest base, and its East Asian width is not F, W or H
+-- whether there is a nearest base that is not wide (East Asian width F, W or H)
 abbrev pub is_not_east_asian : List Base → Bool
 is_not_east_asian [] = false
 is_not_east_asian (b ∷ bases) = not (is_east_asian b)
@@ -147,7 +147,7 @@ letters = AL ∷ HL ∷ []
 abbrev pub syllables : List LineClass
 syllables = H2 ∷ H3 ∷ JL ∷ JT ∷ JV ∷ []
 
--- ---- LB3 to LB24. Each list is named after its rules, and after its version if the versions differ.
+-- ---- LB3 to LB24. Each list is named after its rules, and depends on the version if the rows differ.
 
 abbrev pub LB3_to_LB12 : List Row
 LB3_to_LB12 =

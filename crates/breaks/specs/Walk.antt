@@ -1,6 +1,6 @@
 -- The state of the walk over the characters with the rules of Unicode 15.0: what the rules need to know about the bases
 -- before a position. A state belongs to all bases that the rules cannot distinguish from its example bases
--- (`bases_at`). Only the code depends on states. The contract of `marks` refers to Marks.antt instead.
+-- (`bases_at`). States are internal to the code: the contract of `marks` refers to Marks.antt instead.
 use Rattle.std.specs.Prelude.{◌≡◌, ℕ, ◌*◌, ◌<◌, Bool, true, false, not, ◌||◌, ◌&&◌, ◌==◌, ◌++◌, List, [], ◌∷◌, map, get_or, if◌then◌else◌}
 use Rattle.ucd.specs.declared.line_class.LineClass.{LineClass}
 use Rattle.ucd.specs.declared.line_class.LineClass.TheVariants as class
@@ -76,8 +76,8 @@ states =
 abbrev pub bases_at : ℕ → List Base
 bases_at number = get_or states number []
 
--- the final outcome, given whether the last character is a ZWJ and whether the last base is a future
--- pictograph
+-- the outcome after LB8a and LB30b, given whether the last character is a ZWJ and whether the last base is a
+-- future pictograph
 abbrev pub decided_at : ℕ → Bool → Bool → ℕ
 decided_at outcome is_joined is_pictograph = if is_joined || ((outcome == UNLESS) && is_pictograph) then NEVER else outcome
 
@@ -86,11 +86,12 @@ decided_at outcome is_joined is_pictograph = if is_joined || ((outcome == UNLESS
 abbrev pub is_ordinary : Properties → Bool
 is_ordinary p = not (is_same (character_by V15_0 p).class class.ZWJ) && not p.is_future_pictograph
 
--- the walk over ordinary characters in this row, converted to a walk over any characters
+-- the state in this row of the walk over ordinary characters, converted to a state of the walk over any
+-- characters
 abbrev pub full_walk : ℕ → Walk15
 full_walk row = record { row = row; is_joined = false; is_pictograph = false }
 
--- the mark of an outcome that does not wait for the base after next
+-- the mark of each outcome if the base after the next one is not NU
 abbrev pub marks_alone : Bool → List Mark
 marks_alone true = WHOLE_MARKS
 marks_alone false = MARKS
@@ -156,7 +157,7 @@ carried bases =
     ∷ ends_in_odd_run bases ∷ ends_in_digits bases ∷ []
 
 -- The state `walk` belongs to the bases `last` and `others`, the nearest first. A character may still join
--- `last`. The row of `walk` is that of a state whose example bases have the same `answers` and `carried`. The
+-- `last`. The row of `walk` belongs to a state whose example bases have the same `answers` and `carried`. The
 -- two bits of `walk` describe `last`.
 pub record Stands (whole_numbers : Bool) (walk : Walk15) (last : Base) (others : List Base) : Type 0 where
   pub state : ℕ

@@ -82,7 +82,8 @@ bits_of last others = record {
   was_wide = is_wide_base others;
 }
 
--- the mark or the question of an outcome, given the bits of the walk and whether the next base is wide
+-- the mark or question that results from an outcome, given the bits of the walk and whether the next base is
+-- wide
 abbrev pub decided_17 : ℕ → Bits → Bool → ℕ
 decided_17 outcome bits next_is_wide =
     if bits.is_joined then NEVER
@@ -93,7 +94,7 @@ decided_17 outcome bits next_is_wide =
     else if outcome == FINAL_INITIAL then (if (bits.was_wide && next_is_wide) && bits.is_wide then LB19A else NEVER)
     else outcome
 
--- whether the nearest bases are IS and NU
+-- whether the nearest base is IS and the base beyond it is NU
 abbrev pub is_stop_digit : List Base → Bool
 is_stop_digit = followed (is (class.IS ∷ [])) (is (class.NU ∷ []))
 
@@ -113,7 +114,7 @@ marks_17 rest =
 abbrev pub mark_of_17 : ℕ → List Base → Mark
 mark_of_17 decided rest = get_or (marks_17 rest) decided Never
 
--- an answer from the table, given the width of the base before which a question is asked
+-- an answer from the table, with `LB19A` replaced by `MAY` for a wide base and by `NEVER` for any other base
 abbrev pub by_width : ℕ → Bool → ℕ
 by_width answer is_wide = if answer == LB19A then (if is_wide then MAY else NEVER) else answer
 
@@ -121,7 +122,7 @@ by_width answer is_wide = if answer == LB19A then (if is_wide then MAY else NEVE
 unfoldable pub rows_17 : List Row
 rows_17 = rows_before_numbers V17_0 ++ (rows_of_numbers V17_0 ++ rows_after_numbers V17_0)
 
--- the rows whose conditions depend on the bits of a walk
+-- the indices of the rows whose conditions depend on the bits of a walk
 abbrev pub LB8a_row : ℕ
 LB8a_row = 7
 
@@ -168,11 +169,12 @@ is_narrow_17 p = not (is_same (character_by V17_0 p).class class.ZWJ) && (not p.
 abbrev pub narrow_bits : Bits
 narrow_bits = record { is_joined = false; is_pictograph = false; is_wide = false; was_wide = false }
 
--- the walk over narrow characters in this row, converted to a walk over any characters
+-- the state in this row of the walk over narrow characters, converted to a state of the walk over any
+-- characters
 abbrev pub narrow_walk : ℕ → Walk17
 narrow_walk row = record { row = row; is_joined = false; is_pictograph = false; is_wide = false; was_wide = false }
 
--- the mark or the question of an outcome between narrow characters
+-- the mark or question that results from an outcome between narrow characters
 abbrev pub decided_narrow : ℕ → ℕ
 decided_narrow outcome = if outcome == STAYS then NEVER else decided_17 outcome narrow_bits false
 
@@ -193,7 +195,7 @@ abbrev pub ordinary_bits : Properties → Option Properties → Bits
 ordinary_bits last before =
     record { is_joined = false; is_pictograph = false; is_wide = begins_wide last; was_wide = begins_wide_if_any before }
 
--- the walk in the same state, with these bits
+-- a state of the walk over ordinary characters, converted to a state of the walk over any characters
 abbrev pub full_walk : OrdinaryWalk17 → Walk17
 full_walk walk = record { row = walk.row; is_joined = false; is_pictograph = false; is_wide = begins_wide walk.last; was_wide = begins_wide_if_any walk.before }
 

@@ -52,7 +52,7 @@ impl<'b, 'a> Model for Before<'b, 'a> {
 }
 
 impl<'b, 'a> Before<'b, 'a> {
-    /// Returns the bases before the first one, which are none. The list must be empty.
+    /// Returns the value for the start of a text, where no bases precede. `bases` must be empty.
     pub fn none(bases: &'b [Base<'a>]) -> Before<'b, 'a>
         requires { length bases.now ≡ 0 }
         ensures { result ≡ [] }

@@ -1,5 +1,5 @@
-//! The characters of a paragraph as input. Their properties are already known, or are looked up once for each
-//! character.
+//! The characters of a paragraph as input. Their properties are already known, or are looked up whenever a
+//! character is read.
 ghost use Rattle.std.specs.Prelude.{◌≡◌, ◌<◌, ◌∷◌, List, MatchOption, length, map, slice_index_or};
 ghost use Rattle.ucd.specs.Properties.{properties_of};
 ghost use Rattle.ucd.specs.declared.properties.Properties.{Properties};

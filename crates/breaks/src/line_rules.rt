@@ -1,5 +1,5 @@
-//! The first rule that applies between some bases, the nearest first on either side. Each function tries the
-//! rows of specs/Rules.antt that its contract names.
+//! The first rule that applies at a position between bases, the nearest first on either side. Each function
+//! tries the rows of specs/Rules.antt that its contract names.
 ghost use Rattle.std.specs.Prelude.{◌≡◌, ◌++◌, false, map, unwrap_or, Bool};
 ghost use Rattle.ucd.specs.declared.version.Version.TheVariants.{V15_0, V17_0};
 ghost use Rattle.breaks.specs.Reasons.{first_row, names_LB12a_to_LB14, names_LB15, names_LB16_to_LB18};
@@ -525,7 +525,7 @@ fn rule_17(before: &Before<'_, '_>, after: &[Base<'_>]) -> Option<LineRule>
         .or(lb29_to_lb30b(before, after))
 }
 
-/// Returns the first rule that applies between some bases.
+/// Returns the first rule that applies at the position between two lists of bases.
 pub fn rule_between(
     version: Version,
     whole_numbers: bool,

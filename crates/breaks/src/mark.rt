@@ -96,8 +96,8 @@ fn mark_all<C: Characters>(
     }
 }
 
-// Does the same as `mark_all` with the rules of one version. Uses the first walk, which is faster, if that
-// walk can pass all characters.
+// Does the same as `mark_all` with the rules of one version. Uses the walk `O`, which is faster than `W`, if
+// `O` can pass all characters.
 fn mark_by<R: Rules, O: Walk<R>, W: Walk<R>, C: Characters>(
     characters: C,
     rules: R,
@@ -114,7 +114,7 @@ fn mark_by<R: Rules, O: Walk<R>, W: Walk<R>, C: Characters>(
     }
 }
 
-// Does the same as `mark_all` with the rules of 17.0, which have one more walk.
+// Does the same as `mark_all` with the rules of 17.0, for which there is a third, even faster walk.
 fn mark_all_17<C: Characters>(characters: C, marks: &mut [Mark])
     requires { length marks.old ≡ length (C.all characters) }
     ensures { marks.new ≡ marks_by V17_0 false (C.all characters) }
@@ -210,7 +210,7 @@ pub fn numbers_are_whole()
         → marks_of tables true text ≡ marks_of tables false text }
 {}
 
-/// States, as a theorem, that a character directly next to one of the same kind changes no other mark, for
+/// States, as a theorem, that inserting a character next to one of the same kind changes no other mark, for
 /// any tables, with or without whole numbers. Two characters are of the same kind if the rules read the same
 /// properties of both. Their class after LB1 must be SP, NU, AL, HL or ID, and in 17.0 they must not be
 /// U+25CC. The mark between the two is `May` for ID, and otherwise `Never`.

@@ -80,8 +80,8 @@ impl OrdinaryWalk17 {
     }
 }
 
-// Returns the mark or the question of an outcome, given the first characters of the last two bases and of the
-// next one.
+// Returns the mark or question that results from an outcome, given the first characters of the last two bases
+// and of the next one.
 #[inline(always)] // so that the loop keeps the state in registers
 fn decided(outcome: u8, before: Option<Properties>, last: Properties, next: Properties) -> u8
     requires { outcome < OUTCOME_COUNT }

@@ -33,7 +33,8 @@ pub fn answer(question: u8, next: Properties) -> u8
     )
 }
 
-// Returns an answer from the table, given the width of the base before which the question is asked.
+// Returns an answer from the table, with `LB19A` replaced by `MAY` if the base is wide, and otherwise by
+// `NEVER`.
 fn by_width(answer: u8, is_wide: bool) -> u8
     ensures { result ≡ by_width answer is_wide }
 {
@@ -53,7 +54,7 @@ fn answer_at(place: usize) -> u8
     ANSWERS[place]
 }
 
-/// Returns the mark of an outcome. The mark of a question is its answer at the end of a text.
+/// Returns the mark of an outcome. For a question, this is the answer at the end of a text.
 pub fn mark_17(decided: u8) -> Mark
     requires { decided < DECIDED_COUNT }
     ensures end { result ≡ mark_of_17 decided [] }

@@ -22,8 +22,8 @@ pub struct Reason {
     pub rule: LineRule,
     /// Where the base before the position starts.
     pub base: usize,
-    /// Where the nearest base before the position that is not a space starts. The rules write such a base as
-    /// a class followed by `SP*`.
+    /// Where the nearest base before the position that is not a space starts. UAX #14 writes such a base
+    /// as a class followed by `SP*`.
     pub behind_spaces: Option<usize>,
     /// The class of the base before the position, after LB1 and LB10.
     pub class_before: LineClass,
@@ -51,8 +51,8 @@ fn next_class(bases: &[Base<'_>]) -> Option<LineClass>
     }
 }
 
-// Appends the reasons inside a base. `start` is where the base starts, and `behind_spaces` is where the
-// nearest base that is not a space starts.
+// Appends the reasons for the marks inside a base. `start` is where the base starts, and `behind_spaces` is
+// where the nearest base that is not a space starts.
 fn push_inside(
     list: &mut Vec<Reason>,
     base: &Base<'_>,
@@ -84,7 +84,8 @@ fn push_inside(
     Ok(())
 }
 
-// Appends the reasons after the characters of a base, given the bases up to this one, and the bases after it.
+// Appends the reasons for the marks after the characters of a base, given the bases up to this one and the
+// bases after it.
 fn push_base(
     list: &mut Vec<Reason>,
     edition: Edition,
@@ -115,7 +116,7 @@ fn push_base(
     Ok(())
 }
 
-// Returns the reasons after the characters of all bases, given the same bases in reverse order and the marks.
+// Returns the reasons for the marks after all characters, given the bases in both orders and the marks.
 fn reasons_by<'a>(
     alloc: Global,
     edition: Edition,

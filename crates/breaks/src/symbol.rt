@@ -1,5 +1,5 @@
 //! The symbol of a character: its class after LB1 (UAX #14) and, for LB30, whether a parenthesis is wide. The
-//! break rules need to know nothing else about the character.
+//! break table needs to know nothing else about the character.
 ghost use Rattle.std.specs.Prelude.{◌≡◌, ◌<◌, slice_index};
 ghost use Rattle.ucd.specs.declared.properties.TheConstants.{LINE_INDEX_COUNT};
 ghost use Rattle.ucd.specs.declared.version.Version.TheVariants.{V15_0};
@@ -99,9 +99,9 @@ macro_rules! symbols {
     };
 }
 
-// The symbol for each value of `Properties::line_index`: four for each class, in the order of `LineClass`,
-// four for each class with a detail, and four for each of the 8 unused numbers. Tables of Unicode 15.0 have
-// none of the last six classes, and no details.
+// The symbol for each value of `Properties::line_index`: first for the classes in the order of `LineClass`,
+// then for the classes with a detail, and then for the 8 unused numbers. Tables of Unicode 15.0 have none of
+// the last six classes, and no details.
 static SYMBOLS: [u8; LINE_INDEX_COUNT] = symbols! {
     BK BK BK BK; CM CM CM CM; CR CR CR CR; GL GL GL GL; LF LF LF LF; NL NL NL NL; SP SP SP SP;
     WJ WJ WJ WJ; ZW ZW ZW ZW; ZWJ ZWJ ZWJ ZWJ; B2 B2 B2 B2; BA BA BA BA; BB BB BB BB; CB CB CB CB;

@@ -1,7 +1,7 @@
 //! The break table. For each state and each symbol of the next character, the table has the outcome before
 //! that character and the next state. It implements LB4 to LB31, except for two rules that the walk decides
 //! with one bit each: LB8a, and LB30b for future pictographs. The entries are in entries.rt, in an array of
-//! next states and an array of outcomes, because the pass needs only the next state to read the next entry.
+//! next states and an array of outcomes, because the walk needs only the next state to read the next entry.
 ghost use Rattle.std.specs.Prelude.{◌≡◌, ◌<◌, ◌≤◌, ◌+◌, slice_index};
 ghost use Rattle.breaks.specs.declared.table.TheConstants.{ENTRY_COUNT};
 
@@ -117,8 +117,8 @@ pub const ROW: u32 = SYMBOL_COUNT as u32;
 /// The start of the row used at the start of a text, where a line begins, as after BK.
 pub const START: usize = 0;
 
-/// Returns the start of the next row. The slice does not depend on the row, so each step of a pass waits for
-/// only one load.
+/// Returns the start of the next row. The slice does not depend on the row, so each step of the walk waits
+/// for only one load.
 pub fn next_row(row: usize, symbol: u8) -> usize
     requires { row + symbol < ENTRY_COUNT }
     ensures { result ≡ slice_index NEXT_ROWS (row + symbol) }

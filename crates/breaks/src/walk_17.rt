@@ -113,7 +113,8 @@ impl Walk<Rules17> for Walk17 {
 }
 
 impl Walk17 {
-    // Returns the mark or the question of an outcome: `NEVER` if the last character is a ZWJ (LB8a).
+    // Returns the mark or question that results from an outcome: `NEVER` if the last character is a ZWJ
+    // (LB8a).
     fn decide(&self, outcome: u8, next_is_wide: bool) -> u8
         requires { outcome < OUTCOME_COUNT }
         ensures decided { result ≡ decided_17 outcome (bits_in self.now) next_is_wide }
@@ -169,7 +170,7 @@ impl Walk<Rules17> for NarrowWalk17 {
     }
 }
 
-// Returns the mark or the question of an outcome between narrow characters.
+// Returns the mark or question that results from an outcome between narrow characters.
 fn decided_narrow(outcome: u8) -> u8
     requires { outcome < OUTCOME_COUNT }
     ensures decided { result ≡ decided_narrow outcome }

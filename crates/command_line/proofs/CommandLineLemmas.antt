@@ -59,7 +59,7 @@ only_third id x y z d xs other next none (suc j) lt same =
     let second = only_second id y z d xs next none j (omega arith) same in
     omega (arith, second)
 
--- if a parser accepts a value for an option, the value is a number in its range
+-- if an option's parser accepts a value, the value is a number in the option's range
 number_of_value : (f : Found) (a : Arg) (name : Text) (most : ℕ) → a.id.now ≡ name → HasValue a (Signed (pos 1) (pos most)) f → HasNumber name most (rows_of f)
 number_of_value f a name most id value =
     let number = number_in value.text 1 most (omega arith) value.accepted in

@@ -153,7 +153,7 @@ module _ (old : Command) (m : ArgMatches) (p : IsParsedFrom old m) (plain : IsPl
           let entry = entry_by_id (EntryPasses p.built) (found_of m).entries.items arg.id.now x parsed.values found in
           entry_value x found entry.0 entry.1 ((bytes_eq-Decides entry.0.0.now arg.id.now).0 entry.2) entry.3
 
-  -- another argument has a value or is absent
+  -- any argument has a value or is absent
   pub optional_value : ((first_value (found_of m) arg.id.now ≡ None) × (one_text (found_of m) arg.id.now ≡ None)) ⊎ HasValue arg q (found_of m)
   optional_value = go (matched_of (found_of m) arg.id.now) refl
     where

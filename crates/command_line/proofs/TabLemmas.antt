@@ -7,7 +7,7 @@ use Rattle.clap.proofs.WalkLemmas.{one_text-rows}
 use Rattle.command_line.specs.CommandLine.{HasTabs, number_of, tab_width_of}
 use Rattle.command_line.proofs.DefaultLemmas.{number_read}
 
--- the text of the tab width is parsed as the number that it denotes; without the option, there is no such text
+-- the parsed tab width is the number that the option's text denotes, or 0 if the option is not given
 pub tabs_read : (E : Type 0) (Gives : Text → Result ℕ E → Type 0) → ((t : Text) (x : Result ℕ E) → Gives t x → ParsesUnsigned 8 10 t x)
     → (f : Found) (r : Option ℕ) → HasTabs (rows_of f) → (one_text f (codes "tabs") ≡ None → r ≡ None)
     → ((t : Text) → one_text f (codes "tabs") ≡ Some t → ReadsOne Gives t r) → unwrap_or r 0 ≡ tab_width_of (rows_of f)
@@ -22,7 +22,7 @@ tabs_read E Gives parses f r tabs none read =
           ∙ sym (ap (λ (o : Option Text). unwrap_or (option_map number_of o) 0) has.first)
     ]
 
--- a given tab width is in its range
+-- if a tab width is given, it is from 1 to 255
 pub stops_in : (rows : List Row) → HasTabs rows → is_some (first_of (codes "tabs") rows) ≡ true → (1 ≤ tab_width_of rows) × (tab_width_of rows ≤ 255)
 stops_in rows tabs some =
     elim tabs [

@@ -4,7 +4,7 @@
 //! it.
 
 /// The product's version, followed by the versions of Unicode.
-pub const VERSION: &str = "0.5.0
+pub const VERSION: &str = "0.6.0
 Unicode 15.0 or 17.0: the rules and the table files
 Unicode 18.0: columns and grapheme clusters";
 

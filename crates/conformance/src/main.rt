@@ -9,10 +9,10 @@
 //! - `conformance starts-of UCD WIDTH [VERSION]` fills each paragraph again at a width, and prints where its
 //!   lines start.
 //!
-//! Without arguments, it prints its usage. The first two commands are for Unicode's conformance tests
-//! (`tests/conformance/run`). The others make calls that the command `fribidi` never makes, so that
-//! `tests/resources/run` can measure them. For the same reason, `marks-of` and `levels-of` use a copy of the
-//! tables.
+//! Without arguments, the program prints its usage. The first two commands are for Unicode's conformance
+//! tests (`tests/conformance/run`). The other commands make calls that the program `fribidi` never makes, so
+//! that `tests/resources/run` can measure these calls. For the same reason, `marks-of` and `levels-of` use a
+//! copy of the tables.
 #![tactic(auto)]
 
 ghost use Rattle.std.specs.Prelude.{◌<◌, IfOk};

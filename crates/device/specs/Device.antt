@@ -2,8 +2,8 @@
 use Rattle.std.specs.Prelude.{◌≡◌, ℕ, ◌+◌, ◌-◌, ◌^◌, ◌<◌, ◌≤◌, ◌==◌, min, List, length, take, Option, Result, MatchResult, MatchBool}
 use Rattle.std.specs.Io.KnownBytes.{Keeps, Appends, Consumes, IsAtEnd}
 
--- The state of a source or sink. `bytes` are the bytes left in a source or stored in a sink, if the source or sink
--- reports them. `passed` counts all bytes that were transferred. `failures` counts failed calls, up to 2^64 - 1.
+-- The state of a source or sink. `bytes` are the bytes left in a source or stored in a sink, if these are
+-- known. `passed` counts all bytes that were transferred. `failures` counts failed calls, up to 2^64 - 1.
 -- `failed_at` is the value of `passed` at the last failure.
 pub record Device : Type 0 where
   pub bytes : Option (List ℕ)
@@ -50,8 +50,8 @@ abbrev pub Writes : {E : Type 0} → Device → Device → Result ℕ E → List
 Writes old new result given =
     MatchResult result (λ n. MatchBool (n == 0) (Fails old new) (Takes old new n given)) (λ _. Fails old new)
 
--- A call failed between two states, and no bytes were transferred after it. The count of failures increased, unless it
--- already was at its maximum.
+-- One call failed between two states, and no bytes were transferred after the failure. The count of failures
+-- increased, unless it already was at its maximum.
 pub record FailedLast (old new : Device) : Type 0 where
   pub failures : new.failures ≡ min (old.failures + 1) greatest
   pub last : new.failed_at ≡ new.passed

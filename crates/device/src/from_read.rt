@@ -5,7 +5,7 @@ use crate::{Source, countable};
 use std::io;
 use std::io::ErrorKind;
 
-/// A source that wraps a reader of std. Its `read` returns the count that the reader returns. It fails once
+/// A source that wraps a reader of std. `read` returns the byte count that the reader returns, and fails once
 /// 2^64 - 1 bytes have been read.
 #[derive(Drop)]
 pub struct FromRead<R> {

@@ -7,7 +7,7 @@
 //! ```rust
 //! let mut sink = ToWrite::new(room); // four bytes
 //! assert!(rt; write_all(&mut sink, b"abc") == Ok(()));
-//! assert!(rt; write_all(&mut sink, b"de") == Err(1)); // one byte was taken
+//! assert!(rt; write_all(&mut sink, b"de") == Err(1)); // one byte was written
 //! ```
 #![tactic(auto)]
 

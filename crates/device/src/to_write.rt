@@ -5,8 +5,8 @@ use crate::{Sink, countable};
 use std::io;
 use std::io::ErrorKind;
 
-/// A sink that wraps a writer of std. It reports the bytes that the writer reports. After 2^64 - 1 bytes,
-/// each write fails.
+/// A sink that wraps a writer of std. `write` returns the byte count that the writer returns, and fails once
+/// 2^64 - 1 bytes have been written.
 #[derive(Drop)]
 pub struct ToWrite<W> {
     inner: W,

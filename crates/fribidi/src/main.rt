@@ -1,4 +1,5 @@
-//! The command `fribidi`: its arguments, files and streams. The crate `tool` defines what they do.
+//! The command `fribidi`: its arguments, files and streams. The crate `tool` defines what the command does
+//! with them.
 #![tactic(auto)]
 
 ghost use Rattle.std.specs.Prelude.{◌<◌};
@@ -49,8 +50,8 @@ fn run(rt: &HostRuntime) -> Result<(), ProgramFault> {
     run_words(rt, &words)
 }
 
-// Executes the arguments. This function and those that it calls own one allocated value each, since each
-// value that is dropped when a call fails makes the proof longer.
+// Runs the command with these arguments. This function and those that it calls own one allocated value each,
+// since each value that is dropped when a call fails makes the proof longer.
 fn run_words(rt: &HostRuntime, words: &[&str]) -> Result<(), ProgramFault> {
     match settings(rt.alloc(), words) {
         Ok(settings) => run_settings(rt, &settings),
@@ -59,7 +60,7 @@ fn run_words(rt: &HostRuntime, words: &[&str]) -> Result<(), ProgramFault> {
     }
 }
 
-// Executes arguments that lack `--ucd`, with the installed folder of tables if there is one.
+// Runs the command with arguments that lack `--ucd`, using the installed folder of tables if there is one.
 fn run_installed(rt: &HostRuntime, words: &[&str], fault: LineFault) -> Result<(), ProgramFault> {
     match installed_folder(rt, "../share/hordguli/ucd", Version::V15_0) {
         Ok(Some(folder)) => run_over(rt, folder.as_str(), words, fault),
@@ -85,7 +86,8 @@ fn run_over(
     run_tables(rt, tables, &settings)
 }
 
-// Reads the installed tables of Unicode 17.0. If there are none, the arguments lack a folder.
+// Reads the installed tables of Unicode 17.0. If there are none, returns `fault`, since the arguments name no
+// folder.
 fn installed_17(rt: &HostRuntime, fault: LineFault) -> Result<Tables, ProgramFault> {
     match installed_folder(rt, "../share/hordguli/ucd-17.0", Version::V17_0) {
         Ok(Some(folder)) => {
@@ -96,7 +98,7 @@ fn installed_17(rt: &HostRuntime, fault: LineFault) -> Result<Tables, ProgramFau
     }
 }
 
-// Executes arguments with `--ucd`, which names the folder of the table files.
+// Runs the command with arguments that name the folder of the table files with `--ucd`.
 fn run_settings(rt: &HostRuntime, settings: &Settings<'_>) -> Result<(), ProgramFault>
     requires { 0 < settings.now.width }
 {

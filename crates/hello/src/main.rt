@@ -1,5 +1,5 @@
-//! A session in a few lines: opens a text, edits it, changes its width, reads it and prints it. `README.md`
-//! shows the bodies of `main` and `edit`. CI checks that they are the same.
+//! A session in a few lines: opens, edits, rewraps, reads and prints a text. `README.md` shows the bodies of
+//! `main` and `edit`. CI checks that both copies are the same.
 #![tactic(auto)]
 
 use anyhow::Result;

@@ -6,8 +6,8 @@ use lines::{Engine, Options};
 use std::io::Read;
 use terminal::{Escapes, Start, read_start};
 
-/// Reads a text until its direction is known, and sets it as the base direction of all paragraphs laid out
-/// later. After an error, uses the direction of the text that was read before the error.
+/// Reads a text until its direction is known, and sets this direction as the base direction of all paragraphs
+/// laid out later. After an error, uses the direction of the text that was read before the error.
 pub(crate) fn set_direction<R: Read>(
     rt: &HostRuntime,
     engine: &mut Engine,

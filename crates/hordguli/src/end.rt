@@ -29,7 +29,7 @@ pub(crate) enum End {
     /// Standard output is a pipe whose reader is gone, which is not an error.
     #[error("")]
     Closed,
-    /// An error that was reported.
+    /// An error that has already been reported.
     #[error("")]
     Reported,
     #[error("hordguli: out of memory")]

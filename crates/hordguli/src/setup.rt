@@ -1,4 +1,4 @@
-//! What the settings mean: the tables, the engine's options, and how texts are written.
+//! Converts the settings to tables, layout options and the form of the output.
 use crate::end::End;
 use bidi::Base;
 use lines::Options;
@@ -22,7 +22,7 @@ fn folder_of(version: Version) -> &'static str {
     }
 }
 
-/// Returns how paragraphs are laid out.
+/// Returns the layout options that the settings select.
 pub(crate) fn options_of(settings: &Settings<'_>) -> Options {
     Options {
         base: base_of(settings.direction),
@@ -66,7 +66,7 @@ fn pattern_end(error: regex::Error) -> End {
     }
 }
 
-/// Returns how texts are written.
+/// Returns the form of the output that the settings select.
 pub(crate) fn form_of<'a>(
     rt: &HostRuntime,
     settings: &Settings<'_>,
@@ -107,7 +107,7 @@ fn columns_in(text: &str) -> u16 {
     }
 }
 
-/// Reads the tables from the folder that is given, or else the installed tables.
+/// Reads the tables from the folder in the settings, or the installed tables if no folder is set.
 pub(crate) fn tables_of(rt: &HostRuntime, settings: &Settings<'_>) -> Result<Tables, End> {
     match settings.ucd {
         Some(folder) => in_folder_as(rt, settings.unicode, folder).map_err(table_fault),

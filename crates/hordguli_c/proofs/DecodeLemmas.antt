@@ -1,4 +1,4 @@
--- The bytes of the characters of a text.
+-- How many bytes the characters of a text need in UTF-8.
 use Rattle.std.proofs.Common.{◌≡◌, ℕ, ◌≤◌, List, [], ◌∷◌, length, take, sum_by, encode_utf8_all, refl, ap, arith}
 use Rattle.std.specs.Prelude.{IsUtf8}
 use Rattle.std.specs.Char.{len_utf8}
@@ -8,7 +8,7 @@ use Rattle.std.proofs.lemmas.List.Sums.{sum_by-cons, sum_by-take-le}
 use Rattle.std.proofs.lemmas.Str.{encodes-chars, length-encode}
 use lib.Utf8.{encode}
 
--- the lengths of characters in UTF-8 add up to the length of their encoding
+-- the UTF-8 lengths of the characters in a list add up to the length of the encoded list
 bytes_of : (cs : List ℕ) → sum_by len_utf8 cs ≡ length (encode_utf8_all cs)
 bytes_of [] = refl
 bytes_of (c ∷ cs) =

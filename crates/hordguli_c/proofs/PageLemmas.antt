@@ -1,4 +1,5 @@
--- The printed lines of a text that no session refuses.
+-- Printing a text that a session would accept: `PutsPage` holds after a success and after an allocation
+-- failure.
 use Rattle.std.proofs.Common.{◌≡◌, ℕ, ◌<◌, List, length, Option, Some, None, inl, inr, subst}
 use Rattle.ucd.specs.declared.tables.Tables.{Tables}
 use Rattle.lines.specs.Layouts.{Rules, cut_by, unmeasured}

@@ -37,7 +37,8 @@ module _ (kept : List Layout) (at count : ℕ) (within : at + count ≤ length (
         let is = part_is in
         is ∙ front_is count (paragraph_end kept at - at) (drop at (text_of kept)) ∙ ap (λ (cs : List ℕ). take (length cs) (drop at (text_of kept))) (sym is)
 
--- if an array begins with the first `done` characters of a range, copying the next part to it extends these characters
+-- if an array begins with the first `done` characters of a range, copying the next part of the range to index
+-- `done` extends this prefix by that part
 pub next_part : (text part array written : List ℕ) (pos done k : ℕ) → part ≡ take (length part) (drop (pos + done) text) → written ≡ part
     → done ≤ length array → take done array ≡ take done (drop pos text)
     → take (done + length part) (put_mid done k array written) ≡ take (done + length part) (drop pos text)

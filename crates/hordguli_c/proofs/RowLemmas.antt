@@ -1,4 +1,5 @@
--- A row is a line of its paragraph of which all characters are shown.
+-- A line of a paragraph equals the row of its characters if all of them are shown, and the line's clusters
+-- are the clusters of these characters alone.
 use Rattle.std.proofs.Common.{◌≡◌, ℕ, suc, Bool, Option, List, take, [], ◌∷◌, length, map, refl, sym, ap, ap₂, ◌∙◌, arith}
 use Rattle.std.specs.List.{slice_range}
 use Rattle.std.proofs.lemmas.List.{length-map, take_all}

@@ -1,4 +1,4 @@
--- The number of runs.
+-- Lemmas about the number of directional runs.
 use Rattle.std.proofs.Common.{◌≡◌, ℕ, ◌≤◌, List, length, sym, ap, ◌∙◌, arith}
 use Rattle.std.proofs.lemmas.List.{length-map}
 use Rattle.std.proofs.lemmas.List.Sums.{count_by-le-length, length-filter}
@@ -21,6 +21,6 @@ runs_few levels =
       length-order levels,
     )
 
--- a new iterator has as many runs as the levels have
+-- `runs_out` has one item for each run that a new iterator yields
 pub length-runs : (levels : List ℕ) (runs : List Run) → runs ≡ runs_of levels → length runs ≡ length (runs_out levels)
 length-runs levels runs is = ap (λ (s : List Run). length s) is ∙ sym (length-map (runs_of levels) run_out)

@@ -29,7 +29,8 @@ spans_few line from to =
       length-range_with_len 0 (width - 0),
     )
 
--- `array` has a first part of the items at its front, `rest` follows that part among the items, and k is the length of that part
+-- the first k items of `all` were copied to the front of the array, whose other elements are unchanged;
+-- `rest` lists the remaining items
 pub record IsPut {A : Type 0} (all array_old rest array : List A) (k : ℕ) : Type 0 where
   pub done : List A
   pub len : length done ≡ k
@@ -50,7 +51,7 @@ pub put_within : {A : Type 0} (all array_old array rest : List A) (x : A) (k : �
 put_within all array_old array rest x k fits put =
     omega (arith, fits, put.len, length-append put.done (x ∷ rest), ap length put.items)
 
--- a list from index k on begins with the item at k
+-- the suffix of a list from index k on is the item at k, followed by the suffix from index k + 1 on
 uncons : {A : Type 0} (xs : List A) (k : ℕ) → k < length xs → (y : A) × (drop k xs ≡ y ∷ drop (k + 1) xs)
 uncons [] k within = absurd (omega arith)
 uncons (x ∷ xs) zero within = (x, refl)
@@ -71,7 +72,7 @@ put_next all array_old array rest x k within put =
           ∙ sym (append_assoc put.done (x ∷ []) (drop (k + 1) array_old));
     }
 
--- a new iterator has as many spans as the range has
+-- `spans_out` has one item for each span that a new iterator yields
 pub length-out : (line : Visual) (from to : ℕ) (spans : List Span) → spans ≡ spans_of line from to
     → length spans ≡ length (spans_out line from to)
 length-out line from to spans is = ap (λ (s : List Span). length s) is ∙ sym (length-map (spans_of line from to) span_out)

@@ -104,7 +104,8 @@ GivesEdgeCaret edge status state old new =
     OrNoMemory (IsOfCharacter state edge) status (new ≡ old)
     (Gives (option_map caret_out (edge_caret_at (rules_of state.engine) state.kept edge)) status old new)
 
--- The edge after a step is stored, and 1 as the number of steps. At the end of a line, only the number 0 is stored.
+-- The edge after a step is stored, and 1 as the number of steps. If no step is possible in that direction,
+-- only the number 0 is stored.
 abbrev pub Steps : Option Edge → Status → EdgeOut × ℕ → EdgeOut × ℕ → Type 0
 Steps None status old new = (status ≡ is.Ok) × (new ≡ (old.0, 0))
 Steps (Some next) status old new = (status ≡ is.Ok) × (new ≡ (edge_out next, 1))

@@ -1,5 +1,5 @@
 -- What is stored for lines, paragraphs and text of a session: numbers, bytes, characters, and lists in optional arrays.
--- Also defines positions as offsets in UTF-8 bytes or UTF-16 code units.
+-- Also what is stored for conversions between positions and offsets in UTF-8 bytes or UTF-16 code units.
 use Rattle.std.specs.Prelude.{◌≡◌, ℕ, ◌+◌, ◌<◌, ◌≤◌, ◌&&◌, Bool, List, length, map, option_map, slice_get, Option, Some, MatchBool}
 use Rattle.std.specs.List.{slice_range}
 use Rattle.lines.specs.Columns.{padding_of, width_at}

@@ -39,7 +39,7 @@ direction_of bits = if nat_lt (bits % 16777216) 4 && names_direction bits then S
 abbrev pub low_bits_of : ℕ → Option ℕ
 low_bits_of bits = if nat_lt bits 134217728 then Some (bits % 67108864) else None
 
--- whether breaks inside numbers are disabled, or `None` if a bit other than 26 is set
+-- whether breaks inside numbers are disabled (bit 4), or `None` if a bit other than 4 and 26 is set
 abbrev pub tailoring_in : ℕ → Option Bool
 tailoring_in bits = if bits == 0 then Some false else if bits == 16 then Some true else None
 
@@ -60,7 +60,7 @@ options_of bits =
       tab_width = bits / 256 % 256;
     }) else None
 
--- the options of a row: only bits 3 and 5 may be set; `None` for other numbers
+-- the options of a row, given the bits below bit 26; `None` if a bit other than 3 and 5 is set
 abbrev pub row_options_in : ℕ → Option Options
 row_options_in bits = if bits == 0 || (bits == 8 || (bits == 32 || bits == 40)) then options_of bits else None
 

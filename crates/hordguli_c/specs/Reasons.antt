@@ -24,7 +24,7 @@ use Rattle.hordguli_c.specs.declared.reason_calls.ReasonOut.{ReasonOut}
 use Rattle.hordguli_c.specs.declared.status.Status.{Status}
 use Rattle.hordguli_c.specs.declared.status.Status.TheVariants as is
 
--- The value of a position that does not exist. Longer paragraphs are refused.
+-- The number for a missing position. Paragraphs of this length or longer are refused.
 abbrev pub no_position : ℕ
 no_position = 2 ^ 32 - 1
 
@@ -163,7 +163,7 @@ kept_out reason found = record {
   neutral = neutral_number found.step.neutral.rule;
 }
 
--- the reason for the level of a character that X9 removes, which has no types after the original one
+-- the reason for the level of a character that X9 removes; the type after each rule is 255 (no class)
 abbrev pub removed_out : LevelReason → ReasonOut
 removed_out reason = record {
   opener = position_number reason.explicit.opener;

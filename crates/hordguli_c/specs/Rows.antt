@@ -19,8 +19,9 @@ use Rattle.hordguli_c.specs.declared.runs.RunOut.{RunOut}
 use Rattle.hordguli_c.specs.declared.status.Status.{Status}
 use Rattle.hordguli_c.specs.declared.status.Status.TheVariants as is
 
--- whether numbers are the base level of a paragraph and levels of characters before L1: explicit levels are at most 125
--- (UAX #9, BD2), and I1 and I2 add at most 1 to each. Positions in a row have 32 bits.
+-- Whether the base level and the levels of a row before L1 are in range, with one level per character.
+-- Explicit levels are at most 125 (UAX #9, BD2), and I1 and I2 add at most 1 to each. Positions in a row have
+-- 32 bits.
 pub record IsRow (base : ℕ) (text levels : List ℕ) : Type 0 where
   pub base_is : base ≤ 1
   pub levels_are : All (λ level. level ≤ 126) levels
@@ -64,7 +65,7 @@ row_by tables options text levels =
 abbrev pub row_of : Tables → Options → ℕ → List ℕ → List ℕ → Row
 row_of tables options base text levels = row_by tables options text (row_levels tables base text levels)
 
--- what `LaidRow` holds: the levels after L1 and the maps, all as long as the text
+-- the levels and the position maps of a `LaidRow` are as long as its text
 pub record IsSized (row : LaidRow) : Type 0 where
   pub levels_len : length row.levels.items ≡ length row.text.items
   pub ltov_len : length row.ltov.items ≡ length row.text.items

@@ -1,4 +1,4 @@
--- The results of opening a session, and of the functions that edit one.
+-- The results of the functions that open and edit a session.
 use Rattle.std.specs.Prelude.{◌≡◌, ℕ, ◌+◌, ◌<◌, ◌⊎◌, Bool, List, length, Option, Some, None}
 use Rattle.ucd.specs.declared.tables.Tables.{Tables}
 use Rattle.lines.specs.Engine.{analysed_of, filled_of, rules_of, written_of}
@@ -80,8 +80,8 @@ damage_out damage = record {
 abbrev pub changed_out : ChangedLines → ChangedOut
 changed_out changed = record { first_line = changed.first_line; old_lines = changed.old_lines; new_lines = changed.new_lines }
 
--- the changed lines of a session are the lines that this call changed if it succeeded, and otherwise those of the last
--- successful call
+-- after a successful call, the session's changed lines are those of the call; after an error, they stay those
+-- of the last successful call
 abbrev pub ChangesLines : SessionState → SessionState → Damage → Type 0
 ChangesLines before after damage = AreChanged (lines_in before.kept) (lines_in after.kept) damage after.changed
 

@@ -16,7 +16,7 @@ use Rattle.hordguli_c.specs.declared.table_calls.TableFaultOut.{TableFaultOut}
 use Rattle.hordguli_c.specs.declared.status.Status.{Status}
 use Rattle.hordguli_c.specs.declared.status.Status.TheVariants as is
 
--- the version of Unicode that images store as this number, or `None` if there is none
+-- the version of Unicode that has this number in images, or `None` if no version has it
 abbrev pub version_of : ℕ → Option Version
 version_of number = if number == 0x000F_0000 then Some V15_0 else if number == 0x0011_0000 then Some V17_0 else None
 
@@ -29,7 +29,7 @@ cause_number cause.Value = 5
 cause_number cause.NamedBefore = 6
 cause_number cause.Memory = 7
 
--- a fault as it is stored: files are counted from 0, and lines from 1
+-- the form in which a fault is stored: files are counted from 0, and lines from 1
 abbrev pub fault_out : TableFault → TableFaultOut
 fault_out fault = record { file = fault.file - 1; line = fault.line; cause = cause_number fault.cause }
 

@@ -1,4 +1,5 @@
--- What a handle of tables owns: nothing if it is null, and otherwise the block of an object whose tables have this value.
+-- What a tables handle owns: nothing if it is null, and otherwise the allocation that holds the tables and
+-- their buffers.
 use Rattle.std.specs.Prelude.{◌≡◌, Option, Some, None}
 use base.Fml.{Fml, ftrue, fex}
 use denote.RattleType.{RattleType}

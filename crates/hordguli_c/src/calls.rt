@@ -1,7 +1,7 @@
 //! A macro for functions that use the object of a handle.
 
-/// Takes the object out of a handle, makes a call with it, and puts it back. Returns the number of the call's
-/// status, or that of `Closed` if the handle has no object.
+/// Takes the object out of a handle, makes a call with the object, and puts the object back. Returns the
+/// number of the call's status, or the number of `Closed` if the handle has no object.
 macro_rules! with_object {
     ($handle:ident, $alloc:ident, mut $object:ident, $call:expr) => {
         match $handle.swap($alloc, None) {

@@ -334,7 +334,7 @@ pub extern "C" fn hordguli_core_spans(
     )
 }
 
-// The sides and directions of include/hordguli.h.
+// The numbers of sides and directions, as in include/hordguli.h.
 const BEFORE: u32 = 0;
 
 const AFTER: u32 = 1;

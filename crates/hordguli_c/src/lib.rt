@@ -20,5 +20,6 @@ mod table_calls;
 mod tables_handle;
 mod tables_object;
 mod text_calls;
+mod utf8;
 
 pub use row_calls::row_is_line;

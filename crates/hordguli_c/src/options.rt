@@ -32,7 +32,7 @@ const HIGH_BIT_IS_0: u32 = 1 << 25;
 
 const LINE_SEPARATORS: u32 = 1 << 26;
 
-// The lowest bit that no option has.
+// No call accepts this bit or a higher one.
 const UNKNOWN: u32 = 1 << 27;
 
 const NOBREAK: u32 = 4;
@@ -94,7 +94,7 @@ fn base_of(bits: u32) -> Base
     }
 }
 
-// Returns whether the bits name one base direction, and no bit is unknown.
+// Returns whether the bits do not combine two base directions, and no bit above 26 is set.
 fn names_direction(bits: u32) -> bool
     ensures { result ≡ names_direction bits }
 {

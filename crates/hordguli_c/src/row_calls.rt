@@ -221,7 +221,7 @@ fn find_row(
     }
 }
 
-// Returns a character as it is shown at a level (L4).
+// Returns the character that is shown for `c` at a level (L4).
 fn mirrored(tables: &Tables, level: u8, c: char) -> u32
     ensures { result ≡ mirrored tables.now level c }
 {

@@ -22,9 +22,9 @@ use crate::session_handle::{SessionHandle, SessionObject};
 use crate::status::{Status, advance_status, edit_status, number_of};
 use crate::tables_handle::TablesHandle;
 use crate::tables_object::TablesObject;
+use crate::utf8::text_of;
 use lines::{Engine, Options};
 use session::{Damage, Session};
-use simdutf8::compat::from_utf8;
 use std::alloc::Global;
 
 /// The width at which a session is opened: in columns, or in the caller's unit if the session is measured.
@@ -154,7 +154,7 @@ fn open_session(
     let Some(options) = options_of(options) else {
         return number_of(Status::UnknownOption);
     };
-    let Ok(text) = from_utf8(text) else {
+    let Some(text) = text_of(text) else {
         return number_of(Status::NotUtf8);
     };
     if let Some(object) = session.swap(alloc, None) {
@@ -237,7 +237,7 @@ pub extern "C" fn hordguli_core_insert(
         (λ piece. Changes (TriesEdit (insertion pos piece)) status
         session.old.held session.new.held damage.old damage.new)) result }
 {
-    let Ok(text) = from_utf8(text) else {
+    let Some(text) = text_of(text) else {
         return number_of(Status::NotUtf8);
     };
     with_object!(session, alloc, mut object, insert(&mut object, pos, text, damage))
@@ -298,7 +298,7 @@ pub extern "C" fn hordguli_core_replace(
         (λ piece. Changes (TriesEdit (replacing pos count piece)) status
         session.old.held session.new.held damage.old damage.new)) result }
 {
-    let Ok(text) = from_utf8(text) else {
+    let Some(text) = text_of(text) else {
         return number_of(Status::NotUtf8);
     };
     with_object!(session, alloc, mut object, replace(&mut object, pos, count, text, damage))

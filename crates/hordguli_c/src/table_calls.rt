@@ -112,7 +112,7 @@ fn tell_image_fault(fault: ImageFault, out: &mut TableFaultOut) -> Status
     Status::TableFault
 }
 
-// Makes the object of a handle.
+// Allocates the object of a handle that owns these tables.
 fn boxed(alloc: Global, tables: Tables) -> Result<Box<TablesObject>, AllocError>
     ensures { IfOk result (λ object. object.value ≡ tables) }
 {
@@ -185,7 +185,7 @@ pub extern "C" fn hordguli_core_tables_read_version(
     number_of(read_into(alloc, tables, version, &files, fault))
 }
 
-// Decodes an image, and makes the object of its handle.
+// Decodes an image, and allocates the object of a handle that owns the decoded tables.
 fn decoded(alloc: Global, image: &[u8]) -> Result<Box<TablesObject>, ImageFault>
     ensures ok { IfOk result (λ object. IsImageOf image.now object.value) }
     ensures err { IfErr result (IsImageFault image.now) }

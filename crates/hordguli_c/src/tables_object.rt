@@ -17,7 +17,7 @@ use stream::Page;
 use text_run::push_page;
 use ucd::Tables;
 
-// Buffers are kept after a call whose text and printed lines have at most this number of bytes.
+// Buffers are kept after a call whose text and whose printed lines each have at most this number of bytes.
 const KEPT_BYTES: usize = 65_536;
 
 /// The object of a handle of tables. Contracts see only the tables: buffers kept for the next call never
@@ -194,7 +194,7 @@ fn put_page_by(
     status
 }
 
-// Frees the buffers if they may be large, given the number of bytes of the text.
+// Frees the buffers that may be large. `len` is the length of the text in bytes.
 fn free_large(alloc: Global, engine: &mut Engine, buffers: &mut Buffers, len: usize)
     ensures { engine.new ≡ engine.old }
 {

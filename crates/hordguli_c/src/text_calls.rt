@@ -14,6 +14,7 @@ use crate::calls::with_object;
 use crate::options::{has_bit, page_form_of, separates_lines};
 use crate::status::{Status, number_of};
 use crate::tables_handle::TablesHandle;
+use crate::utf8::text_of;
 use lines::char_count;
 use simdutf8::compat::from_utf8;
 use std::alloc::Global;
@@ -37,7 +38,7 @@ pub extern "C" fn hordguli_core_layout(
     let Some(form) = page_form_of(options, width, print) else {
         return number_of(Status::UnknownOption);
     };
-    let Ok(text) = from_utf8(text) else {
+    let Some(text) = text_of(text) else {
         return number_of(Status::NotUtf8);
     };
     let separates = separates_lines(options);
@@ -55,12 +56,12 @@ pub extern "C" fn hordguli_core_count_utf8(bytes: &[u8], count: &mut usize) -> u
     ensures { Returns (λ status. OfText bytes.now status (count.new ≡ count.old)
         (λ text. (status ≡ Ok) × (count.new ≡ length text))) result }
 {
-    match from_utf8(bytes) {
-        Ok(text) => {
+    match text_of(bytes) {
+        Some(text) => {
             *count = char_count(text);
             number_of(Status::Ok)
         }
-        Err(_) => number_of(Status::NotUtf8),
+        None => number_of(Status::NotUtf8),
     }
 }
 
@@ -171,8 +172,8 @@ pub extern "C" fn hordguli_core_decode(
         (count.old, record { characters = characters.old; offsets = offsets.old })
         (count.new, record { characters = characters.new; offsets = offsets.new })) result }
 {
-    match from_utf8(bytes) {
-        Ok(text) => number_of(put_decoded(text, wanted, characters, offsets, count)),
-        Err(_) => number_of(Status::NotUtf8),
+    match text_of(bytes) {
+        Some(text) => number_of(put_decoded(text, wanted, characters, offsets, count)),
+        None => number_of(Status::NotUtf8),
     }
 }

@@ -9,7 +9,7 @@ use Rattle.hordguli_fribidi.specs.Types.{class_of}
 abbrev pub asks_marks : ℕ → Bool
 asks_marks flags = flags / 2 % 2 == 1
 
--- an array whose items from `off` on are in visual order
+-- an array after its items from `off` on were put into visual order
 abbrev pub reordered : ℕ → List ℕ → List ℕ → List ℕ
 reordered off vtol old = take off old ++ map (slice_index (drop off old)) vtol
 

@@ -55,7 +55,7 @@ abbrev pub base_of : ℕ → Base
 base_of number =
     if number == 272 then Ltr else (if number == 273 then Rtl else (if number == 33 then WeakRtl else WeakLtr))
 
--- the direction of a level; the level of a direction is its lowest bit
+-- the number of a base level's direction; the lowest bit of the number is the level
 abbrev pub direction_of : ℕ → ℕ
 direction_of level = if level == 0 then 272 else 273
 

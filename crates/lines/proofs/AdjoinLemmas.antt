@@ -1,5 +1,5 @@
--- The characters of a level run are next to each other: the columns between two of them are those of the characters in
--- between.
+-- The characters of a level run are next to each other: the distance in columns between two of them is the
+-- total width of the characters from one up to the other.
 use Rattle.std.proofs.Common.{◌≡◌, ◌≢◌, ℕ, zero, suc, ◌+◌, ◌-◌, ◌<◌, ◌≤◌, ◌==◌, Bool, true, false, ◌&&◌, ◌||◌, not, List, [], ◌∷◌, ◌++◌, length, get_or, drop, take, if◌then◌else◌}
 use Rattle.std.proofs.Common.{refl, sym, ap, ◌∙◌, inl, inr, ◌⊎◌, arith}
 use Rattle.std.specs.Prelude.{slice_range, sum, sum_by, All, None, Option}

@@ -25,7 +25,7 @@ stands_apart Lf = true
 stands_apart Other = true
 stands_apart _ = false
 
--- whether a character is part of no conjunct
+-- whether a character with this property value is in no conjunct
 abbrev is_unjoined : IndicConjunctBreak → Bool
 is_unjoined InCb.None = true
 is_unjoined _ = false
@@ -33,7 +33,7 @@ is_unjoined _ = false
 abbrev is_apart : ℕ → Bool
 is_apart c = stands_apart (grapheme_cluster_break c) && is_unjoined (indic_conjunct_break c)
 
--- whether each row of a table that overlaps a range of code points has a value that passes a test
+-- whether the values of all rows of a table that overlap a range of code points pass a test
 abbrev rows_pass : {V : Type 0} → (V → Bool) → ℕ → ℕ → List (Row V) → Bool
 rows_pass test first last [] = true
 rows_pass test first last (r ∷ rows) = (nat_le (suc r.1) first || (nat_le (suc last) r.0 || test r.2)) && rows_pass test first last rows
@@ -59,7 +59,7 @@ row_passes test first last c from to v other true is low high row rest =
     (either _ _ (test v ≡ true) (λ (h : nat_le (suc last) from ≡ true). absurd (omega (arith, is_within (suc last) from h, after, high))) (λ h. h)) row
 row_passes test first last c from to v other false is low high row rest = rest
 
--- if the rows pass, the values of all code points of the range pass
+-- if the default and all rows that overlap a range pass, the values of all code points in the range pass
 value_passes : {V : Type 0} (test : V → Bool) (default : V) (rows : List (Row V)) (first last c : ℕ) → test default ≡ true
     → rows_pass test first last rows ≡ true → first ≤ c → c ≤ last → test (value_in default rows c) ≡ true
 unfolding value_in
@@ -147,7 +147,8 @@ alone_is_apart c =
     (either _ _ (is_apart c ≡ true) (apart_in 65280 65437 c wide_forms)
     (apart_in 131072 196607 c more_ideographs))))))))))))
 
--- between two characters that stand apart, there is a split point (`may_end`, `may_start`, `no_conjunct`)
+-- between two characters that satisfy `is_apart`, there is a split point (`may_end`, `may_start`,
+-- `no_conjunct`)
 ends_one : (g : GraphemeClusterBreak) → stands_apart g ≡ true → may_end g ≡ true
 ends_one Control one = refl
 ends_one Lf one = refl
@@ -180,7 +181,7 @@ ends_apart before (c ∷ d ∷ text) all =
     let next = and_parts (is_alone d) (list_all is_alone text) parts.1 in
     rw (breaks_at c d before text (split_apart c d (alone_is_apart c parts.0) (alone_is_apart d next.0))) (ap (λ ends. true ∷ ends) (ends_apart (c ∷ before) (d ∷ text) parts.1))
 
--- in a text of only such characters, a cluster ends after each character
+-- if all characters of a text satisfy `is_alone`, a cluster ends after each character
 pub ends_alone : (text : List ℕ) → list_all is_alone text ≡ true → replicate (length text) true ≡ cluster_ends text
 unfolding cluster_ends
 ends_alone text all = splat_is_map text (length text) true refl ∙ sym (ends_apart [] text all)

@@ -1,4 +1,4 @@
--- Two characters next to each other in a level run are next to each other in visual order.
+-- Two consecutive characters of a level run are next to each other in visual order.
 use Rattle.std.proofs.Common.{◌≡◌, ℕ, suc, ◌+◌, ◌-◌, ◌<◌, ◌≤◌, nat_le, nat_lt, Bool, true, false, List, [], ◌∷◌, ◌++◌, length, get_or}
 use Rattle.std.proofs.Common.{sym, ap, subst, ◌∙◌, inl, inr, arith, append_assoc, length-append, add-one, reverse, cond}
 use Rattle.std.specs.Prelude.{All}

@@ -33,7 +33,7 @@ one_range xs s e is within =
     let one : e - s ≡ 1 = omega (arith, is) in
     ap₂ (λ n (ys : List ℕ). take n ys) one (drop_more xs s 0 within)
 
--- without mirroring, the characters at the positions of a map are those that `ordered_chars` puts there
+-- without mirroring, the characters of the text at a range of `vtol` are the same range of `ordered_chars`
 pub ordered_places : (print : Print) (line : Visual) (s e : ℕ) → print.nomirror ≡ true
     → map (λ k. get_or line.text k 0) (slice_range line.vtol s e) ≡ slice_range (ordered_chars print line) s e
 ordered_places print line s e on =
@@ -51,7 +51,7 @@ module _ (line : Visual) where
       ap (λ zs. cells line x k ++ zs) (expanded-append xs ys ks ls (omega (arith, same)))
       ∙ sym (append_assoc (cells line x k) (expanded line xs ks) (expanded line ys ls))
 
-  -- characters that are not tabs are printed as they are
+  -- characters that are not tabs are printed unchanged
   plain_cells : (xs ks : List ℕ) → length xs ≡ length ks → ((i : ℕ) → i < length xs → is_tab line.tab_width (get_or line.text (get_or ks i 0) 0) ≡ false)
       → expanded line xs ks ≡ xs
   plain_cells [] [] same plain = refl
@@ -62,7 +62,7 @@ module _ (line : Visual) where
       (cond-false (is_tab line.tab_width (get_or line.text k 0)) (replicate (width_at line k) 32) (x ∷ []) (plain 0 (omega arith)))
       (plain_cells xs ks (omega (arith, same)) (λ i below. plain (suc i) (omega (arith, below))))
 
-  -- all characters with a position are printed
+  -- items past the end of the shorter list do not change what is printed
   expanded-take : (n : ℕ) (xs ks : List ℕ) → min (length xs) (length ks) ≤ n → expanded line (take n xs) (take n ks) ≡ expanded line xs ks
   expanded-take zero [] ks most = refl
   expanded-take (suc n) [] ks most = refl

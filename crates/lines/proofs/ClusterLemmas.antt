@@ -66,7 +66,8 @@ concat_cut rule before [] after = refl
 concat_cut rule before (c ∷ cs) after =
     concat_attach (rule (c ∷ before) (cs ++ after)) c (cut rule (c ∷ before) cs after) ∙ ap (λ t. c ∷ t) (concat_cut rule (c ∷ before) cs after)
 
--- if all characters of the pieces are Unicode scalar values, the pieces' UTF-8 bytes have the same cluster ends
+-- if all characters of the pieces are Unicode scalar values, the pieces and their UTF-8 bytes have the same
+-- ends
 scalars_parts : (xs ys : List ℕ) → scalars (xs ++ ys) ≡ true → (scalars xs ≡ true) × (scalars ys ≡ true)
 scalars_parts [] ys h = (refl, h)
 scalars_parts (x ∷ xs) ys h =
@@ -94,7 +95,7 @@ pub ends_of_words : (bs : List ℕ) → IsUtf8 bs → flat_map ends_of (word_bou
 unfolding word_ends
 ends_of_words bs u = ends_of_segments is_word_break (λ before c. unfold is_word_break in refl) bs u
 
--- decoding the UTF-8 bytes of characters yields these characters
+-- encoding characters one at a time yields their UTF-8 bytes, and decoding these bytes yields the characters
 bytes_of_each : (cs : List ℕ) → flat_map encode_utf8 cs ≡ encode_utf8_all cs
 bytes_of_each [] = refl
 bytes_of_each (c ∷ cs) = ap (◌++◌ (encode_utf8 c)) (bytes_of_each cs)

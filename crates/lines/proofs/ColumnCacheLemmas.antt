@@ -25,7 +25,7 @@ new_right : (n : ℕ) → list_all is_right (replicate n 0) ≡ true
 new_right zero = refl
 new_right (suc n) = ap (λ b. b && list_all is_right (replicate n 0)) zero_right ∙ new_right n
 
--- a correct entry can replace any other
+-- if all entries are correct, replacing one of them with a correct entry leaves all entries correct
 pub set_right : (entries : List ℕ) (at entry : ℕ) → list_all is_right entries ≡ true → is_right entry ≡ true → list_all is_right (set entries at entry) ≡ true
 set_right [] at entry all one = refl
 set_right (first ∷ entries) zero entry all one =

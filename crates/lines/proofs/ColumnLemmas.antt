@@ -11,7 +11,7 @@ module _ (line : Visual) where
   pub left_more : (k : ℕ) → k < length line.vtol → columns_left line (k + 1) ≡ columns_left line k + width_at line (get_or line.vtol k 0)
   left_more k within = sum_by_more (width_at line) line.vtol k 0 within
 
-  -- a position past the end has the columns of the whole line to its left
+  -- clipping a visual position to the length of the line does not change the columns to its left
   pub left_to : (place k : ℕ) → k ≡ min place (length line.vtol) → columns_left line k ≡ columns_left line place
   left_to place k is =
       elim (cases_lt place (length line.vtol)) [

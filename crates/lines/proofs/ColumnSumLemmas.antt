@@ -6,7 +6,7 @@ use Rattle.lines.specs.CharInfos.{columns_of}
 use Rattle.lines.specs.KnownWidths.{is_common, is_printable}
 use Rattle.lines.proofs.KnownWidthLemmas.{all_common, all_printable}
 
--- characters of one column have as many columns as there are characters
+-- if each character of a text has one column, the columns of the text add up to its length
 ones : (text : List ℕ) → ((k : ℕ) → k < length text → 1 ≡ columns_of (get_or text k 0)) → sum (map columns_of text) ≡ length text
 ones [] each = refl
 ones (c ∷ text) each =

@@ -11,7 +11,7 @@ use Rattle.lines.specs.Clusters.{cluster_ends, ends_at, ends_in, IsSplitPoint}
 abbrev pub is_end : List Bool → ℕ → ℕ → ℕ → Bool
 is_end ends start len k = k == len || ends_at ends (start + k - 1)
 
--- the ends among the first n
+-- the ends that are at most n
 abbrev pub ends_up_to : List Bool → ℕ → ℕ → ℕ → List ℕ
 ends_up_to ends start len n = filter (is_end ends start len) (range_with_len 1 n)
 
@@ -32,7 +32,7 @@ module _ (ends : List Bool) (start len k : ℕ) (some : 0 < k) where
   pub ends_same : is_end ends start len k ≡ false → ends_up_to ends start len (k + 1 - 1) ≡ ends_up_to ends start len (k - 1)
   ends_same is = more ∙ ap (λ b. ends_up_to ends start len (k - 1) ++ cond b (k ∷ []) []) is ∙ append-nil (ends_up_to ends start len (k - 1))
 
--- tests that agree on a range select the same numbers of it
+-- if two tests agree on a range, they select the same numbers from the range
 filter_by : (p q : ℕ → Bool) (a n : ℕ) → ((k : ℕ) → a ≤ k → k < a + n → p k ≡ q k) → filter p (range_with_len a n) ≡ filter q (range_with_len a n)
 filter_by p q a zero same = refl
 filter_by p q a (suc n) same =
@@ -52,7 +52,8 @@ ends_in_window text from to start len opens closes first past within =
     (ap (ends_at near) place
     ∙ sym (window_at text from to (start + k - 1) opens closes (omega (arith, some, first)) (omega (arith, some, most, past)) within)))
 
--- the ends of a part of a text are determined by the ends of the whole text
+-- the ends of a part do not change if items are added before and after the list and the part's start is
+-- shifted accordingly
 pub ends_in_whole : (front ends after_it : List Bool) (start len : ℕ) → start + len ≤ length ends
     → ends_in (front ++ (ends ++ after_it)) (length front + start) len ≡ ends_in ends start len
 ends_in_whole front ends after_it start len within =

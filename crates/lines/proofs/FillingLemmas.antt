@@ -33,7 +33,7 @@ greatest_skips p k (suc n) below fails =
 
 -- ---- sums
 
--- the first n characters without their tail are the first n minus the tail's length
+-- the first n characters without their tail are a prefix, whose length is n minus the length of the tail
 shown_to : (rest : List CharInfo) (n : ℕ) → n ≤ length rest → before_tail (take n rest) ≡ take (n - suffix_len trails (take n rest)) rest
 shown_to rest n within =
     ap (λ m. take (m - suffix_len trails (take n rest)) (take n rest)) (length-take-le n rest within)
@@ -122,8 +122,8 @@ pub first_end_none : (rest : List CharInfo) → ((j : ℕ) → j < length rest �
 first_end_none rest fails =
     ap (λ o. unwrap_or o (length rest - 1)) (least_none (λ j. may_end rest j || cluster_ends_at rest j) 0 (length rest) (λ m from below. fails m (omega (arith, below))))
 
--- if no number from `low` to k - 1 passes, the least number that passes is at least k and below n, and so is
--- the default
+-- if no number from `low` to k - 1 passes, and the default is at least k and below n, the result of the
+-- search is at least k and below n
 pub least_within : (p : ℕ → Bool) (low count n d k : ℕ) → low + count ≡ n → k ≤ d → d < n → ((m : ℕ) → low ≤ m → m < k → p m ≡ false)
     → (k ≤ unwrap_or (least p low count) d) × (unwrap_or (least p low count) d < n)
 least_within p low zero n d k e above below fails = (above, below)
@@ -197,7 +197,7 @@ fits_here width rest n sum next within read e narrow =
       )
     ])
 
--- the next character does not fit if it is not in a tail and the columns up to its end exceed the width
+-- the next character does not fit if it is never in a tail and the columns up to its end exceed the width
 misfits_here : (width : ℕ) (rest : List CharInfo) (n sum next : ℕ) → n < length rest → FitsUpTo width rest n sum → next ≡ advance sum (place_at rest n)
     → trails (place_at rest n) ≡ false → width < next → fits_to width rest n ≡ false
 misfits_here width rest n sum next within read e counts wide =
@@ -230,7 +230,8 @@ fits_more width rest n sum next within read e most fit must =
       ];
     })
 
--- a line fits up to a character if it fits up to a later one
+-- if the first m characters, including their tail, are no wider than the width, a line fits up to each of
+-- them
 fits_before : (width : ℕ) (rest : List CharInfo) (k m : ℕ) → k < m → m ≤ length rest → columns (take m rest) ≤ width → fits_to width rest k ≡ true
 fits_before width rest k m below within narrow =
     let part : take (suc k) (take m rest) ≡ take (suc k) rest = take-take (suc k) m rest (omega (arith, below)) in
@@ -247,7 +248,8 @@ none_at p xs k d none past =
       | inr after ↦ ap p (get_or_past xs k d after) ∙ past
     ]
 
--- the columns of a group of characters, added to those before it, are the columns up to its end
+-- the columns before a group of characters plus the columns of the group are the columns up to the group's
+-- end
 pub columns_group : (rest : List CharInfo) (n m sum more : ℕ) (piece : List CharInfo) → n ≤ m → piece ≡ slice_range rest n m → sum ≡ columns (take n rest)
     → fold advance sum piece ≡ sum + more → sum + more ≡ columns (take m rest)
 columns_group rest n m sum more piece forward is before total =
@@ -280,7 +282,8 @@ fits_group width rest n m sum more piece read forward within is total most narro
       ];
     }
 
--- if the next character does not fit, no later one fits
+-- if the next character does not fit, the greatest position that passes both tests is the greatest below n
+-- that passes `test`
 pub read_to_misfit : (width : ℕ) (rest : List CharInfo) (test : ℕ → Bool) (n sum next : ℕ) → n < length rest → FitsUpTo width rest n sum → next ≡ advance sum (place_at rest n)
     → trails (place_at rest n) ≡ false → width < next → greatest (λ k. test k && fits_to width rest k) (suc (stop rest)) ≡ greatest test n
 read_to_misfit width rest test n sum next within read e counts wide =
@@ -290,7 +293,8 @@ read_to_misfit width rest test n sum next within read e counts wide =
     (λ k from to. and_right (test k) (fits_to width rest k) (misfits width rest n k from (omega (arith, to, stops.1)) here))
     ∙ greatest_fits test (fits_to width rest) n read.fits
 
--- the line ends after the next character at the latest
+-- if the next character fits and the line must end after it, the greatest position that passes both tests is
+-- the greatest up to n that passes `test`
 pub read_to_stop : (width : ℕ) (rest : List CharInfo) (test : ℕ → Bool) (n sum : ℕ) → n < length rest → FitsUpTo width rest n sum → fits_to width rest n ≡ true → must_end rest n ≡ true
     → greatest (λ k. test k && fits_to width rest k) (suc (stop rest)) ≡ greatest test (suc n)
 read_to_stop width rest test n sum within read fit must =

@@ -77,7 +77,7 @@ pub reflowed_laid_out : (rules : Rules) (width : ℕ) (old new : Layout) (extent
 reflowed_laid_out rules width old new extents laid is put =
     rw (put ∙ reflowed_by rules width old extents laid is) (record { width = width; paragraph = laid.paragraph; from_scratch = refl })
 
--- the rules for a paragraph that is not measured are those of the engine
+-- rules without advances do not change if their advances are set to `None`
 pub own_rules : (rules : Rules) → rules.advances ≡ None → with_advances rules None ≡ rules
 own_rules rules none = ap (with_advances rules) (sym none)
 

@@ -12,7 +12,8 @@ pub length-visuals : (l : Layout) → length (visuals l) ≡ length l.lines
 length-visuals l = length-map (enumerate_from 0 l.lines) (λ nth. visual_of l.base l.tab_width l.advances l.text l.lines nth.0 nth.1) ∙ length-enumerate_from 0 l.lines
 
 module _ {A : Type 0} (xs ys : List A) where
-  -- if two lists have the same item at two indices, or none, the same is read there, with any default
+  -- if two lists have the same item at two indices, or both have none there, reading these indices with the
+  -- same default yields the same value
   read_both : (i j : ℕ) (d : A) → slice_get xs i ≡ slice_get ys j → get_or xs i d ≡ get_or ys j d
   read_both i j d same = sym (unwrap_or-slice_get xs i d) ∙ ap (λ o. unwrap_or o d) same ∙ unwrap_or-slice_get ys j d
 

@@ -76,7 +76,7 @@ pub next_written : (are written : List ℕ) (k width : ℕ) → k < length writt
 next_written are written k width below inside so_far is =
     take_more_set written k width below ∙ ap₂ (λ (xs : List ℕ) x. xs ++ x ∷ []) so_far is ∙ sym (take_more are k 0 inside)
 
--- the width that is known for a character is its width
+-- the width that is read from the known widths, if there are any, is the width of the character
 pub known_width : (known : Option (List ℕ)) {line same : Visual} (k : ℕ) {v : ℕ} → line ≡ same → known_or known (widths_of same.tab_width None same.text) ≡ widths same
     → v ≡ get_or (known_or known (widths_of line.tab_width None line.text)) k 0 → v ≡ width_at same k
 known_width known {line} {same} k {v} e are is =
@@ -178,18 +178,19 @@ kept_tabbed tab_width text sizes advances widths rest lines some parts front siz
     subst (λ (xs : List ℕ). AreWidthsOf tab_width text xs (kept_widths tab_width text sizes) lines) (sym first)
     (subst (λ (xs : List ℕ). AreWidthsOf tab_width text advances xs lines) (sym last) are)
 
--- a line of a paragraph is inside it
+-- if the shown parts of all lines are inside the first n characters, so is the shown part of line k
 pub line_inside : (n k : ℕ) (lines : List Line) (line : Line) → slice_get lines k ≡ Some line → All (λ l. l.start + length l.levels ≤ n) lines → line.start + length line.levels ≤ n
 line_inside n k lines line here inside =
     let p : Line → Type 0 = λ (l : Line). l.start + length l.levels ≤ n in
     subst p (get_or_from_slice_get lines k line line here) (All-get_or p lines k line (slice_get_within lines k line here) inside)
 
--- after all its items have been written, a list holds the written items
+-- if new items replace all items of a list, the list consists of the new items
 pub whole_items : (len : ℕ) (new old : List ℕ) → length new ≡ length old → len ≡ length old → take len (new ++ drop (length new) old) ≡ new
 whole_items len new old same size =
     ap (λ (xs : List ℕ). take len (new ++ xs)) (drop_all (length new) old (omega (arith, same))) ∙ ap (take len) (append-nil new) ∙ take_all len new (omega (arith, same, size))
 
--- the sizes that a paragraph keeps stay correct when the widths are written
+-- if correct widths are written and the advances are unchanged, the stored sizes of a paragraph are still
+-- correct
 pub sizes_kept : (tab_width : ℕ) (text old new : List ℕ) (lines : List Line) → kept_len tab_width text ≤ length old → sum (take (length text) old) < 2 ^ 32
     → take (length text) new ≡ take (length text) old → length new ≡ length old
     → AreWidthsOf tab_width text (take (length text) new) (kept_widths tab_width text new) lines → KeepsSizes tab_width text new lines
@@ -199,7 +200,7 @@ sizes_kept tab_width text old new lines len room front size widths = record {
   widths = widths;
 }
 
--- the same holds for the text and the list as they were read
+-- the same holds for copies of the text and of the list that equal the originals
 pub sizes_after : (tab_width len : ℕ) (text seen old found new : List ℕ) (lines : List Line) → seen ≡ text → found ≡ old → len ≡ length old
     → kept_len tab_width text ≤ length old → sum (take (length text) old) < 2 ^ 32
     → take (length seen) new ≡ take (length seen) found → length new ≡ length found
@@ -212,7 +213,7 @@ sizes_after tab_width len text seen old found new lines e f g room few front siz
     (subst (λ (t : List ℕ). take (length t) new ≡ take (length t) found) e front ∙ ap (take (length text)) f) same
     (subst (λ (t : List ℕ). AreWidthsOf tab_width t (take (length t) new) (kept_widths tab_width t new) lines) e widths))
 
--- the advances are unchanged
+-- if a write leaves the advances at the front of the list unchanged, the paragraph keeps its advances
 pub advances_stay : (is_measured : Bool) (len : ℕ) (text seen old found new : List ℕ) → seen ≡ text → found ≡ old → len ≡ length old
     → take (length seen) new ≡ take (length seen) found → length new ≡ length found
     → kept_advances is_measured text (take len (new ++ drop (length new) old)) ≡ kept_advances is_measured text old

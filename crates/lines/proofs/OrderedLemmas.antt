@@ -28,7 +28,8 @@ use Rattle.lines.proofs.AboveLemmas.{Above, above_at, above_drop, above_reset, a
 use Rattle.lines.proofs.BeginningLemmas.{starts_from}
 use Rattle.lines.proofs.VisualLemmas.{starts_in, Rise}
 
--- whether a visual line is the part of a text from a position on, in the order of its levels
+-- whether a visual line shows the characters of a text from a position on, in the order that their levels
+-- determine
 pub record IsPart (rules : Rules) (text : List ℕ) (line : Visual) : Type 0 where
   pub start : ℕ
   pub classes : List BidiClass
@@ -135,7 +136,7 @@ module _ (rules : Rules) (margin : Option ℕ) (base : ℕ) (text levels : List 
       let next : k + 1 + j ≡ k + suc j = omega arith in
       ap (end_of (length text) (map start_of lines)) next ∙ ends (suc j)))
 
--- each line of a layout is a part of its text, in the order of its levels
+-- each line of a layout shows a part of the text, in the order that its levels determine
 pub are_parts : (rules : Rules) (width : ℕ) (text : List ℕ) → All (IsPart rules text) (visuals (layout_of rules width text))
 are_parts rules width text =
     let infos : List CharInfo = infos_of rules.tables rules.options rules.advances text in

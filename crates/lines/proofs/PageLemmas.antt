@@ -37,14 +37,15 @@ pub layout_by_lines : (width : ℕ) (print : Print) (layout : Layout) → layout
 layout_by_lines width print layout =
     sym (flat_map-map (line_bytes width print) (λ (nth : ℕ × Line). visual_of layout.base layout.tab_width layout.advances layout.text layout.lines nth.0 nth.1) (enumerate_from 0 layout.lines))
 
--- the lines of a layout, with the data that they share, are its printed bytes
+-- if lines and the data that they share are those of a layout, their printed bytes are the printed bytes of
+-- the layout
 pub laid_bytes : (width : ℕ) (print : Print) (base tab_width : ℕ) (advances : Option (List ℕ)) (text : List ℕ) (lines : List Line) (layout : Layout)
     → base ≡ layout.base → tab_width ≡ layout.tab_width → advances ≡ layout.advances → text ≡ layout.text → lines ≡ layout.lines
     → lines_bytes width print base tab_width advances text lines ≡ layout_bytes width print layout
 laid_bytes width print base tab_width advances text lines layout b t a c s = rw (b, t, a, c, s) refl
 
 module _ (width : ℕ) (print : Print) (base tab_width : ℕ) (advances : Option (List ℕ)) (text : List ℕ) where
-  -- the printed bytes of a line, given with its number
+  -- the printed bytes of a line, given the pair of its number and the line
   abbrev pub bytes_at : List Line → ℕ × Line → List ℕ
   bytes_at lines nth = line_bytes width print (visual_of base tab_width advances text lines nth.0 nth.1)
 

@@ -67,7 +67,8 @@ greatest_least p (suc n) k below passed =
 abbrev pub Ends : ℕ → ℕ → List CharInfo → Type 0
 Ends width n rest = (m : ℕ) × (m < n) × (m < length rest) × ((fits_to width rest m ≡ false) ⊎ (must_end rest m ≡ true))
 
--- the tests by which a line's end is found
+-- the last position that passes a test and at which the line fits, up to the position at which the line must
+-- end
 abbrev last_of : (List CharInfo → ℕ → Bool) → ℕ → List CharInfo → Option ℕ
 last_of test width rest = greatest (λ k. test rest k && fits_to width rest k) (suc (stop rest))
 
@@ -100,7 +101,8 @@ last_by_must test width n z ps qs local same below within here before =
     ∙ greatest_agree (λ k. test ps k && fits_to width ps k) (λ k. test qs k && fits_to width qs k) (suc z) (λ k under. local_both test width n k ps qs local same (omega (arith, under, below)))
     ∙ ap (λ m. greatest (λ k. test qs k && fits_to width qs k) (suc m)) (sym stops.1)
 
--- a line does not end after a character that does not fit
+-- if a line does not fit up to m, and need not end before m, the last position that passes a test and fits is
+-- before m
 last_skips : (test : List CharInfo → ℕ → Bool) (width m : ℕ) (ps : List CharInfo) → m < length ps → fits_to width ps m ≡ false → ((k : ℕ) → k < m → must_end ps k ≡ false)
     → last_of test width ps ≡ greatest (λ k. test ps k && fits_to width ps k) m
 last_skips test width m ps within misfit before =
@@ -168,7 +170,7 @@ same_end width n ps qs same ends below within =
     refl
     (λ e. same_first n ps qs same (omega (arith, e, below)) (omega (arith, e, within)) ∙ e)
 
--- if there is a break opportunity at k, after the line and before n, `Ends` holds for n
+-- if there is a break opportunity at k, after the end of the first line and before n, `Ends` holds for n
 pub ends_by_break : (width n k : ℕ) (ps : List CharInfo) → line_end width ps < k → k < n → may_end ps k ≡ true → Ends width n ps
 ends_by_break width n k ps after below may =
     let within : k < length ps = candidate_within ps k (or_left (may_end ps k) (cluster_ends_at ps k) may) in
@@ -199,8 +201,8 @@ no_break width ps plain =
           absurd (both_ways (may_end ps (line_end width ps)) plain (ap (may_end ps) is ∙ passed.0))
     ]
 
--- if a line ends at no break opportunity, and a line may end or a cluster ends at k after it, `Ends` holds up
--- to k + 1
+-- if the first line ends at no break opportunity, and at a later position k a line may end or a cluster ends,
+-- `Ends` holds for k + 1
 pub ends_by_cluster : (width k : ℕ) (ps : List CharInfo) → line_end width ps < k → may_end ps (line_end width ps) ≡ false → is_candidate ps k ≡ true → Ends width (suc k) ps
 ends_by_cluster width k ps after plain candidate =
     let within : k < length ps = candidate_within ps k candidate in
@@ -222,7 +224,7 @@ ends_by_cluster width k ps after plain candidate =
       ]
     ]
 
--- what ends a line that starts later also ends the first line
+-- if `Ends` holds for n in the text from s on, `Ends` holds for s + n in the whole text
 ends_earlier : (width n s : ℕ) (ps : List CharInfo) → Ends width n (drop s ps) → Ends width (s + n) ps
 ends_earlier width n s ps ends =
     let m : ℕ = ends.0 in
@@ -239,7 +241,7 @@ ends_earlier width n s ps ends =
 pub ends_within : (width n m : ℕ) (ps : List CharInfo) → n ≤ m → Ends width n ps → Ends width m ps
 ends_within width n m ps more ends = (ends.0, omega (arith, ends.1, more), ends.2, ends.3)
 
--- the next line ends before k, and a line may end after k, or neither line ends at a break opportunity
+-- if the second line ends before k, and a line may end or a cluster ends at k, `Ends` holds for k + 1
 pub ends_by_next : (width s k : ℕ) (ps : List CharInfo) → s ≡ suc (line_end width ps) → s + line_end width (drop s ps) < k → is_candidate ps k ≡ true → Ends width (suc k) ps
 ends_by_next width s k ps is after candidate =
     let ds : List CharInfo = drop s ps in
@@ -255,7 +257,8 @@ ends_by_next width s k ps is after candidate =
           ends_within width (s + suc (k - s)) (suc k) ps (omega (arith, after)) (ends_earlier width (suc (k - s)) s ps ends)
     ]
 
--- without line breaks except mandatory ones, the first line ends at the same place in both texts
+-- if lines end only at mandatory breaks, and the first line ends before n and is not the last, it ends at the
+-- same place in both texts
 pub same_stop_end : (n : ℕ) (ps qs : List CharInfo) → take n ps ≡ take n qs → stop ps < n → suc (stop ps) < length ps → stop qs ≡ stop ps
 same_stop_end n ps qs same below within =
     elim (first_below (must_end ps) (length ps)) [

@@ -79,7 +79,7 @@ starts_follow nobreak width ps qs = record {
       ∙ ap (map (λ k. t + (k - s))) (sym (starts_alone nobreak width ps i s e));
 }
 
--- the first start is that of the first line, and the second line ends at the third start at the latest
+-- the first start is `place`, and the first line ends at or before each later start
 start_first : (nobreak : Bool) (width place : ℕ) (rest : List CharInfo) → 0 < length (starts nobreak width place 0 rest) → get_or (starts nobreak width place 0 rest) 0 0 ≡ place
 start_first nobreak width place [] some = absurd (omega (arith, some))
 start_first nobreak width place (p ∷ rest) some = refl
@@ -95,7 +95,7 @@ module _ (width place k s : ℕ) (ps : List CharInfo) where
   abbrev IsPlain : Type 0
   IsPlain = (e : ℕ) → place + suc e ≡ s → may_end ps e ≡ false
 
-  -- the first line does not depend on characters after k
+  -- `Ends` holds for k + 1, so the end of the first line does not depend on characters after k
   ends_after : (i : ℕ) → suc i < length (starts false width place 0 ps) → get_or (starts false width place 0 ps) (suc i) 0 ≡ s → s ≤ place + k → suc (line_end width ps) < length ps
       → is_candidate ps k ≡ true → (may_end ps k ≡ true) ⊎ IsPlain → Ends width (suc k) ps
   ends_after i some is after within candidate which =
@@ -202,7 +202,7 @@ second_is nobreak width place (p ∷ rest) some =
     let later = first_is nobreak width (suc place) (line_len nobreak width (p ∷ rest) - 1) rest (omega (arith, some)) in
     (omega (arith, later.0), omega (arith, later.1))
 
--- the next line starts at the end of the line
+-- the line start after s is the end of the line that starts at s
 next_is : (nobreak : Bool) (width : ℕ) (ps : List CharInfo) (i s t : ℕ) → slice_get (line_starts_of nobreak width ps) i ≡ Some s → slice_get (line_starts_of nobreak width ps) (i + 1) ≡ Some t
     → (t ≡ s + line_len nobreak width (drop s ps)) × (line_len nobreak width (drop s ps) < length (drop s ps))
 unfolding line_starts_of
@@ -221,8 +221,8 @@ start_there : (nobreak : Bool) (width : ℕ) (ps : List CharInfo) (i k t : ℕ) 
 start_there nobreak width ps i k t e before =
     slice_get-get_or (line_starts_of nobreak width ps) i 0 (omega (arith, slice_get_within (line_starts_of nobreak width ps) k t e, before))
 
--- if the line from s on and the line from u on end before n, the first i + 1 line starts are the same in both
--- texts
+-- if the line from s on and the line from u on end at or before n, and a third line follows, the first i + 1
+-- line starts are the same in both texts
 stays_between : (nobreak : Bool) (width : ℕ) (ps qs : List CharInfo) (n i s u t : ℕ) → take n ps ≡ take n qs → slice_get (line_starts_of nobreak width ps) i ≡ Some s
     → slice_get (line_starts_of nobreak width ps) (i + 1) ≡ Some u → slice_get (line_starts_of nobreak width ps) (i + 1 + 1) ≡ Some t → t ≤ n
     → take (suc i) (line_starts_of nobreak width qs) ≡ take (suc i) (line_starts_of nobreak width ps)

@@ -14,7 +14,8 @@ module _ (ends : List Bool) (k : ℕ) where
   abbrev pub EndsBy : ℕ → Type 0
   EndsBy last = least (ends_at ends) k (length ends - k) ≡ least (ends_at ends) last (length ends - last)
 
--- Two lists of ends: the second begins after the first `front` items of the first. `p` and `q` read them.
+-- Two lists of ends: the second begins after the first `front` items of the first. `p` tests the items of the
+-- first list, and `q` those of the second.
 module _ (p q : ℕ → Bool) (front : ℕ) where
   begins_here : (n : ℕ) → (n ≡ 0) ⊎ (p (n - 1) ≡ true) → after (greatest p n) 0 ≡ n
   begins_here zero opens = refl

@@ -216,7 +216,8 @@ module _ (s : Selection) where
   found_fresh left right q r =
       subst (λ c. is_left_edge covered c ≡ covered c) (sym r.column) (fresh_after left.place right.place q r.within)
 
--- the spans of a line depend only on its tab width, its text, its advances and its visual order
+-- a line with only the data on which its spans depend: its tab width, its text, its advances and its visual
+-- order
 abbrev pub line_with : ℕ → Option (List ℕ) → List ℕ → List ℕ → Visual
 line_with tab_width advances text vtol = record {
   is_first = false;

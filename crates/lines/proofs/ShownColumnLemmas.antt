@@ -1,4 +1,4 @@
--- The columns of a laid out line are those of its shown characters, and so of its runs.
+-- The columns of a laid-out line are the total width of its shown characters, and so of its runs.
 use Rattle.std.proofs.Common.{◌≡◌, ℕ, suc, ◌+◌, ◌-◌, ◌≤◌, Bool, Option, List, [], ◌∷◌, length, map, drop, take, sym, ap, ◌∙◌, arith}
 use Rattle.std.specs.Prelude.{option_map, slice_range, sum, sum_by, All}
 use Rattle.std.specs.List.{enumerate_from}
@@ -39,7 +39,8 @@ use Rattle.lines.proofs.WrittenLemmas.{length-line_levels}
 abbrev shown_advances : Option (List ℕ) → Line → Option (List ℕ)
 shown_advances advances line = option_map (λ a. slice_range a line.start (line.start + length line.levels)) advances
 
--- whether the line's levels and columns are those of its characters
+-- whether the line has a level for each shown character, and its columns are the total width of these
+-- characters
 pub record HasColumns (n : ℕ) (advances : Option (List ℕ)) (text : List ℕ) (line : Line) : Type 0 where
   size : length line.levels ≡ length (slice_range text line.start (line.start + length line.levels))
   total : sum (widths_of n (shown_advances advances line) (slice_range text line.start (line.start + length line.levels))) ≡ line.columns
@@ -94,7 +95,7 @@ module _ (t : Tables) (options : Options) (margin : Option ℕ) (base tab_width 
       All-cons (HasColumns tab_width advances text) (line_between t options margin base text levels all s e) (lines_from t options margin base text levels all (e ∷ starts))
       (between s e (omega (arith, rise.2.0)) (omega (arith, rise.2.1))) (each_line (suc s) (e ∷ starts) rise.2)
 
--- the columns of a visual line's runs
+-- whether the columns of a visual line's runs add up to the columns of the line
 abbrev pub AddUp : Visual → Type 0
 AddUp line = sum_by (run_columns line) (runs_of line.levels) ≡ line.columns
 

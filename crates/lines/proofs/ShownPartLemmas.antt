@@ -11,7 +11,7 @@ use Rattle.lines.specs.declared.options.Options.{Options}
 use Rattle.lines.proofs.FillingLemmas.{columns_after}
 use Rattle.lines.proofs.WidthLemmas.{columns_take}
 
--- the characters that end the shown part
+-- whether a character is not a space within the margin
 abbrev stops : ℕ → List CharInfo → ℕ → Bool
 stops margin line k = not (is_space_within margin line k)
 
@@ -19,7 +19,7 @@ pub shown_len-within : (margin : Option ℕ) (line : List CharInfo) → shown_le
 shown_len-within None line = omega arith
 shown_len-within (Some margin) line = least_within (stops margin line) (text_len line) (length line - text_len line) (length line) (omega arith)
 
--- spaces within the margin are shown, up to the first character that is not one
+-- spaces within the margin are shown, up to the first character that is not such a space
 pub spaces_to : (margin : ℕ) (line : List CharInfo) (k : ℕ) → text_len line ≤ k → k < length line
     → ((j : ℕ) → text_len line ≤ j → j < k → is_space_within margin line j ≡ true) → is_space_within margin line k ≡ false → k ≡ shown_len (Some margin) line
 spaces_to margin line k from below spaces ends =
@@ -72,8 +72,8 @@ columns_rise line j k below = subst (λ ps. columns ps ≤ columns (take k line)
 pub text_narrow : (margin : Option ℕ) (line : List CharInfo) → columns (before_tail line) ≤ columns (shown margin line)
 text_narrow margin line = columns_rise line (text_len line) (shown_len margin line) (text_shown margin line)
 
--- if the shown part fits another margin, and the character after it is not a space that fits this margin, too, the
--- shown part is unchanged
+-- if the shown part fits another margin, and the character after it is not a space within that margin, the
+-- shown part is the same with both margins
 same_spaces : (old margin : ℕ) (line : List CharInfo) → columns (shown (Some old) line) ≤ margin
     → (shown_len (Some old) line < length line → is_space_within margin line (shown_len (Some old) line) ≡ false)
     → shown_len (Some margin) line ≡ shown_len (Some old) line

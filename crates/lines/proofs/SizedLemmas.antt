@@ -84,12 +84,12 @@ pub sized_take : (n : ℕ) (advances : Option (List ℕ)) (ps : List CharInfo) �
 sized_take n None ps = refl
 sized_take n (Some advances) ps = measured_take n advances ps
 
--- the sizes of a part are a part of the sizes from the start of the part on
+-- the sizes of a range of characters are the same range of the sizes of all characters
 pub sized_range : (advances later : Option (List ℕ)) (ps : List CharInfo) (s e : ℕ) → sized later (drop s ps) ≡ drop s (sized advances ps)
     → sized later (slice_range ps s e) ≡ slice_range (sized advances ps) s e
 sized_range advances later ps s e from = sized_take (e - s) later (drop s ps) ∙ ap (take (e - s)) from
 
--- how much of a part is shown can be computed from the sizes from its start on
+-- how much of a range of characters is shown can be computed from the sizes from the start of the range on
 pub shown_range : (margin : Option ℕ) (advances later : Option (List ℕ)) (ps : List CharInfo) (s e : ℕ) (part : Shown) → sized later (drop s ps) ≡ drop s (sized advances ps)
     → part.len ≡ length (shown margin (sized later (slice_range ps s e))) → part.columns ≡ columns (shown margin (sized later (slice_range ps s e)))
     → part ≡ shown_between margin (sized advances ps) s e
@@ -140,7 +140,8 @@ pub sized_infos : (t : Tables) (options : Options) (advances : Option (List ℕ)
 unfolding infos_of
 sized_infos t options advances text = refl
 
--- filling finds the extents of the definition
+-- extents whose starts and shown parts are computed from the infos with advances are those that `extents_of`
+-- defines
 pub found_extents : (rules : Rules) (advances given : Option (List ℕ)) (width : ℕ) (text : List ℕ) (infos : List CharInfo) (extents : LineExtents) → given ≡ advances
     → infos ≡ infos_of rules.tables rules.options None text
     → extents.starts ≡ line_starts_of rules.options.nobreak width (sized given infos)

@@ -1,4 +1,4 @@
--- A paragraph without printed lines: only the base direction is printed.
+-- A paragraph whose lines are not printed: at most the base direction is printed.
 use Rattle.std.proofs.Common.{◌≡◌, ◌∙◌, ℕ, suc, ◌+◌, ◌<◌, ◌≤◌, ◌==◌, Bool, true, false, ◌&&◌, not, Option, List, [], ◌∷◌, ◌++◌, length, if◌then◌else◌, refl, sym, ap, arith}
 use Rattle.std.specs.List.{enumerate_from, flat_map}
 use Rattle.std.proofs.lemmas.Bool.Decides.{nat_tests}
@@ -117,7 +117,7 @@ pub direction_only : (rules : Rules) (width : ℕ) (print : Print) (text : List 
 direction_only rules width print text skips paragraph marks =
     sym (all_are width print skips (base_of rules text) (tab_width_in rules.tables rules.options) rules.advances text (lines_of rules width text) (lines_of rules width text) (some_lines rules width text paragraph marks))
 
--- the same holds if the base level was found in the text, which has as many marks as characters
+-- the same holds for a number that equals the base level of the text
 pub direction_found : (rules : Rules) (width : ℕ) (print : Print) (text : List ℕ) (base : ℕ) → skips_lines print ≡ true → IsParagraph rules text
     → base ≡ base_of rules text → (if print.basedir then direction_line base else []) ≡ paragraph_bytes rules width print text
 direction_found rules width print text base skips paragraph found =

@@ -25,7 +25,7 @@ first test low (suc count) end b e from to fails passes =
           ∙ first test (suc low) count end b (omega arith) (omega arith) to (λ c above below. fails c (omega arith) below) passes
     ]
 
--- the result is no greater than any number that passes, and no smaller number passes
+-- the result of a search is no greater than any number that passes, and no smaller number passes
 first_most : (test : ℕ → Bool) (low count end b : ℕ) → low + count ≡ end → low ≤ b → b < end → test b ≡ true → unwrap_or (least test low count) end ≤ b
 first_most test low zero end b e from to passes = omega arith
 first_most test low (suc count) end b e from to passes =
@@ -44,7 +44,7 @@ first_most test low (suc count) end b e from to passes =
           ]
     ]
 
--- the result is in the range, and passes if it is not the end
+-- the result of a search is in the range, and passes the test if it is not the end of the range
 record Found (test : ℕ → Bool) (low end result : ℕ) : Type 0 where
   from : low ≤ result
   to : result ≤ end
@@ -271,7 +271,7 @@ module _ (is_covered : ℕ → Bool) (width : ℕ) where
         | inr none ↦ any_covered (a + 1) d c (omega arith) (ap (list_any (has_column c)) (sym (without_edge a d none)) ∙ any)
       ]
 
-  -- the span of a left edge is one of them
+  -- a column in the span of a left edge in a range is in one of the spans of the range
   any_of : (a d left c : ℕ) → a ≤ left → left < a + d → is_left_edge is_covered left ≡ true → has_column c (span left) ≡ true → list_any (has_column c) (in_range a d) ≡ true
   any_of a zero left c from to edge has = absurd (omega arith)
   any_of a (suc d) left c from to edge has =

@@ -20,7 +20,7 @@ use Rattle.lines.proofs.ClusterLemmas.{length-cluster_ends}
 use Rattle.lines.proofs.SegmentLemmas.{begin_within, end_within, ends_same, only_end}
 use Rattle.lines.specs.Clusters.{can_split, cluster_begin, cluster_end, cluster_ends, ends_after, ends_at, is_split_point, may_end, may_start, no_conjunct, IsSplitPoint}
 
--- the three tests of two characters between which a text can be split
+-- if a text can be split between two characters, they pass all three tests
 split_parts : (w x : ℕ) → can_split w x ≡ true
     → (may_end (grapheme_cluster_break w) ≡ true) × (may_start (grapheme_cluster_break x) ≡ true) × (no_conjunct (indic_conjunct_break w) (indic_conjunct_break x) ≡ true)
 unfolding can_split
@@ -92,7 +92,7 @@ breaks_at w x before after split =
     let conjunct = none_linked (indic_conjunct_break w) (indic_conjunct_break x) (map indic_conjunct_break before) tests.2 in
     rw (conjunct, no_joiner _ tests.0, no_flag _ tests.0) (parts_of (break_by_pair true (grapheme_cluster_break w) (grapheme_cluster_break x)) (by_pair _ _ tests.0 tests.1))
 
--- a test that may look further back has the same result if looking back has the same result
+-- a combination of tests keeps its result if one test is replaced by a test with the same result
 goes_on : (a b c d : Bool) → c ≡ d → (a || (b && c)) ≡ (a || (b && d))
 goes_on a b c d same = ap (λ e. a || (b && e)) same
 
@@ -296,7 +296,7 @@ module _ (text : List ℕ) (from to k : ℕ) (opens : IsSplitPoint text from) (c
       let end = only_end (cluster_ends (slice_range text from to)) (length_window ∙ one) closes_window in
       window_end ∙ ap (λ n. from + cluster_end (cluster_ends (slice_range text from to)) n) first ∙ omega (arith, end, first, start)
 
--- the split points nearest to character k, before it and after it
+-- if there is a split point directly before or after character k, it is the nearest one on that side
 pub splits_before : (text : List ℕ) (start k : ℕ) → k < length text → start ≤ k → ((i : ℕ) → start < i → i ≤ k → is_split_point text i ≡ false)
     → IsSplitPoint text k → start ≡ k
 splits_before text start k inside most nearest (inl first) = omega (arith, first)

@@ -178,7 +178,7 @@ unfolding line_starts_of
 first_zero nobreak width s [] e = cc
 first_zero nobreak width s (p ∷ rest) e = sym (ap (λ xs. get_or xs 0 0) e)
 
--- what is known about the `CharInfo` of a character of some size
+-- whether a `CharInfo` has the role and the width of a character of the given size
 abbrev IsInfoOf : Tables → ℕ → ℕ → ℕ → CharInfo → Type 0
 IsInfoOf t tab_width c size p =
     (p.trailing ≡ trailing_with t tab_width c) × ((column : ℕ) → advance column p ≡ column + width_from tab_width column c size)
@@ -198,7 +198,7 @@ info_at t tab_width (Some []) (x ∷ text) (m ∷ marks) (ends ∷ clusters) (su
 info_at t tab_width (Some (size ∷ advances)) (x ∷ text) (m ∷ marks) (ends ∷ clusters) (suc k) within =
     info_at t tab_width (Some advances) text marks clusters k (omega (arith, within))
 
--- the first hidden character is a space that fits if its `CharInfo` says so
+-- the `CharInfo` of the first hidden character shows whether this character is a space that fits
 hides : (t : Tables) (tab_width : ℕ) (advances : Option (List ℕ)) (width : ℕ) (text : List ℕ) (line : Line) (ps : List CharInfo) (n : ℕ)
     → length line.levels ≡ n → line.columns ≡ columns (take n ps) → n < length ps → n < length text
     → IsInfoOf t tab_width (get_or text n 0) (get_or (sizes_of tab_width advances text) n 0) (place_at ps n)
@@ -214,7 +214,7 @@ hides t tab_width advances width text line ps n size sum below within info =
     ∙ sym (ap (λ (o : Option ℕ). option_map_or (λ d. is_space (trailing_with t tab_width d)
     && nat_le (line.columns + width_from tab_width line.columns d (get_or sizes (length line.levels) 0)) width) o false) found)
 
--- the `CharInfo` of the first hidden character shows whether it is a space that fits
+-- the same holds for a `CharInfo` that is computed for the first hidden character alone
 pub hidden_is : (t : Tables) (tab_width width c size : ℕ) (advances : Option (List ℕ)) (text : List ℕ) (line : Line) (mark : Mark) (b : Bool) → slice_get text (length line.levels) ≡ Some c
     → size ≡ get_or (sizes_of tab_width advances text) (length line.levels) 0
     → b ≡ (is_space (info t tab_width c mark false).trailing && nat_le (advance line.columns (record (info t tab_width c mark false) { columns = size })) width)

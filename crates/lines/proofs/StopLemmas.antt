@@ -42,7 +42,7 @@ use Rattle.lines.proofs.WidthLemmas.{length-widths, sum_next, tab_ends, width_ta
 -- ---- the sum of the items before an item
 
 module _ (f : ℕ → ℕ) (i : ℕ) where
-  -- whether i is not an item
+  -- whether i is not in a list
   abbrev Without : List ℕ → Type 0
   Without [] = Unit {0}
   Without (x ∷ xs) = (x ≢ i) × Without xs
@@ -192,7 +192,7 @@ module _ (f : ℕ → ℕ) (i : ℕ) where
     after = without_reverse w.front w.before;
   }
 
-  -- the sums before an item, of the item and after it add up to the whole sum
+  -- the sum before an item, the item itself and the sum after the item add up to the sum of all items
   once_sum : (xs : List ℕ) → IsOnce xs → sum_before f i xs + f i + sum_before f i (reverse xs) ≡ sum_by f xs
   unfolding once_reverse
   once_sum xs w =

@@ -343,7 +343,7 @@ looked_up t text properties k p are below is =
 
 -- ---- a test of the looked-up properties
 
--- the classes that do not exist in a version end no line
+-- mapping a class to one that a Unicode version knows does not change whether a line must end after it
 known_ends : (v : Version) (class : LineClass) (is_mark : Bool) → ends_line (resolved (known v class) is_mark) ≡ ends_line (resolved class is_mark)
 known_ends V17_0 class is_mark = refl
 known_ends V15_0 AK is_mark = refl

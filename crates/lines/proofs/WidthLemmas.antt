@@ -73,7 +73,8 @@ width_is n k advances text within =
 pub size_is : (n k : ℕ) (text : List ℕ) → k < length text → get_or (sizes_of n None text) k 0 ≡ size_in n (get_or text k 0)
 size_is n k text within = get_or-map (size_in n) text k 0 0 within
 
--- in such a paragraph, a character that is not a tab has its own columns, and the size of a tab is the tab width
+-- in such a paragraph, the width of a character that is not a tab is its columns, and the size of a tab is
+-- the tab width
 pub width_plain : (n k : ℕ) (text : List ℕ) → k < length text → is_tab n (get_or text k 0) ≡ false → get_or (widths_of n None text) k 0 ≡ columns_of (get_or text k 0)
 width_plain n k text within plain =
     width_is n k None text within

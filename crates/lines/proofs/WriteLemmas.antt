@@ -49,7 +49,7 @@ module _ {old mid : Device} {xs : List ℕ} {before n : ℕ} (first : PassedOn x
         );
       }
 
--- if the sink failed within a part, it failed within any longer part that starts with it
+-- if the sink failed within a part, the sink failed within any longer part that begins with that part
 pub stopped-before : {old new : Device} {xs : List ℕ} {before w : ℕ} (ys : List ℕ) → StoppedIn xs before old new w → StoppedIn (xs ++ ys) before old new w
 stopped-before {old = old} {new = new} {xs = xs} {before = before} {w = w} ys stopped = record {
   after = stopped.after;
@@ -60,7 +60,7 @@ stopped-before {old = old} {new = new} {xs = xs} {before = before} {w = w} ys st
   );
 }
 
--- if the first part was written, writing the last part has the result of writing both
+-- after the first part was written, the result of writing the last part is the result of writing both
 module _ {old mid : Device} {xs : List ℕ} {before n : ℕ} (first : PassedOn xs before old mid n) (new : Device) (ys : List ℕ) where
   pub last_passed : (r : Result ℕ WriteFault) → IfOk r (λ m. PassedOn ys n mid new m) → IfOk r (λ m. PassedOn (xs ++ ys) before old new m)
   last_passed (Ok m) second = passed-append first second

@@ -14,8 +14,8 @@ use Rattle.ucd_derived.specs.declared.IndicConjunctBreak.TheVariants as InCb
 use Rattle.unicode_segmentation.specs.Grapheme.{is_grapheme_break}
 use Rattle.unicode_segmentation.specs.Segments.{Rule}
 
--- for each character of a text, whether a segment by a rule, such as a cluster or a word, ends after it; `before`
--- holds the characters before the text, nearest first
+-- for each character of a text, whether the rule ends a segment, such as a cluster or a word, after the
+-- character; `before` holds the characters before the text, nearest first
 abbrev pub ends_after : Rule → List ℕ → List ℕ → List Bool
 ends_after rule before [] = []
 ends_after rule before (c ∷ text) = rule (c ∷ before) text ∷ ends_after rule (c ∷ before) text
@@ -52,8 +52,9 @@ ends_of cluster = replicate (length (chars cluster) - 1) false ++ true ∷ []
 abbrev pub lies_in : ℕ → ℕ → ℕ → Bool
 lies_in first last c = nat_le first c && nat_le c last
 
--- Whether a character is one of those that no rule joins to one another: Latin, Greek, Cyrillic, Armenian and kana
--- without combining marks, Hebrew and Arabic letters, ideographs, punctuation and some controls.
+-- Whether a character is in a set whose members are never joined to each other: Latin, Greek, Cyrillic,
+-- Armenian and kana without combining marks, Hebrew and Arabic letters, ideographs, punctuation and some
+-- controls.
 abbrev pub is_alone : ℕ → Bool
 is_alone c =
     lies_in 0x20 0x2FF c
@@ -70,9 +71,9 @@ is_alone c =
     || (lies_in 0xFF00 0xFF9D c
     || lies_in 0x20000 0x2FFFF c)))))))))))
 
--- At a split point, the text before and the text after have the same clusters as the whole text. A split point is the
--- start of the text, its end, or a place between two characters at which a cluster ends, whatever comes before and
--- after them.
+-- If a text is split in two at a split point, the clusters of the two parts are the clusters of the whole
+-- text. A split point is the start of the text, its end, or a place between two characters at which a cluster
+-- ends, whatever comes before and after them.
 
 -- whether no rule except GB9c joins a character of this class to the next one, if the next one may start a
 -- cluster
@@ -84,8 +85,8 @@ may_end Other = true
 may_end SpacingMark = true
 may_end _ = false
 
--- whether no rule except GB9c joins a character of this class to the one before it, if that one may end a cluster,
--- and no rule looks further back from it
+-- whether no rule except GB9c joins a character of this class to a previous character that may end a cluster;
+-- from such a character, no rule looks further back
 abbrev pub may_start : GraphemeClusterBreak → Bool
 may_start Extend = false
 may_start SpacingMark = false

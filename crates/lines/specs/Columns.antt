@@ -1,4 +1,5 @@
--- The columns of a line at each visual position: those of the text's characters, not of their mirrors.
+-- The columns at each visual position of a line. They are the columns of the text's characters, not of their
+-- mirrored forms.
 use Rattle.std.specs.Prelude.{ℕ, ◌+◌, ◌-◌, nat_lt, List, length, take, sum, sum_by, slice_index, slice_range, Option, if◌then◌else◌}
 use Rattle.ucd.specs.Least.{least}
 use Rattle.reorder.specs.Order.{is_odd}

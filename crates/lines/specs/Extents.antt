@@ -24,7 +24,7 @@ abbrev pub from_pairs : List ℕ → List Shown
 from_pairs (len ∷ columns ∷ items) = record { len = len; columns = columns } ∷ from_pairs items
 from_pairs items = []
 
--- the extents that a list describes, with the start of each line, and then the length and the columns of each
+-- the extents stored in a list: first the start of each line, and then the length and the columns of each
 -- shown part
 abbrev pub unpacked : List ℕ → LineExtents
 unpacked items = record { starts = take (length items / 3) items; shown = from_pairs (drop (length items / 3) items) }

@@ -50,7 +50,8 @@ abbrev pub or_else : Option ℕ → Option ℕ → Option ℕ
 or_else (Some k) other = Some k
 or_else None other = other
 
--- A line that starts at the first character of `rest`. A position is the index of the character before it.
+-- A line that starts at the first character of `rest`. A position in the line is given as the index of the
+-- character before the position.
 module _ (rest : List CharInfo) where
   -- whether a line must end after a character
   abbrev pub must_end : ℕ → Bool

@@ -8,7 +8,7 @@ use Rattle.lines.specs.declared.fill.LaidText.{LaidText}
 abbrev pub advances_in : LaidText → Option (List ℕ)
 advances_in of = given_if of.is_measured of.advances.now
 
--- the text has an advance and a width for each character, and the widths are those on its lines
+-- the text has an advance and a width for each character, and each width is the character's width on its line
 pub record HasWidths (of : LaidText) (lines : List Line) : Type 0 where
   pub advances : length of.advances.now ≡ length of.text.now
   pub widths : length of.widths.now ≡ length of.text.now

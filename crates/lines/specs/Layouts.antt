@@ -129,7 +129,8 @@ pub record AreLinesOf (rules : Rules) (text : List ℕ) (fill : Filled) : Type 0
   pub width : ℕ
   pub from_scratch : fill ≡ fill_of rules width text
 
--- A layout and a fill exchange their lines, along with the widths on these lines.
+-- A layout and a fill exchange their lines. If both were made with the same rules, each one now has the lines
+-- for the width at which the other one was made.
 pub record Exchanges (old new : Layout) (fill_old fill_new : Filled) : Type 0 where
   pub put : new ≡ record old { lines = fill_old.lines }
   pub taken : fill_new ≡ record { lines = old.lines; len = length old.text }

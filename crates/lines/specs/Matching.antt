@@ -18,7 +18,7 @@ pub record MatchAtEnd {A : Type 0} (xs ys : List A) (n : ℕ) : Type 0 where
   pub same : drop (length xs - n) xs ≡ drop (length ys - n) ys
   pub most : n < length xs → n < length ys → slice_get xs (length xs - n - 1) ≢ slice_get ys (length ys - n - 1)
 
--- two lines are the same except for their lists
+-- two lines agree in every field that is not a list, and either both or neither are measured
 pub record HaveSameForm (a b : Visual) : Type 0 where
   pub is_first : a.is_first ≡ b.is_first
   pub base : a.base ≡ b.base
@@ -27,8 +27,9 @@ pub record HaveSameForm (a b : Visual) : Type 0 where
   pub columns : a.columns ≡ b.columns
   pub measured : is_measured a ≡ is_measured b
 
--- line k of the extents `a` and line m of `b` have the same place in a paragraph of n characters, and equally
--- large shown parts
+-- In a paragraph of n characters, line k of the extents `a` and line m of `b` start at the same position, end
+-- at the same position, and have shown parts of the same length and columns. Either both or neither are the
+-- first line.
 pub record HaveSamePlace (n : ℕ) (a b : LineExtents) (k m : ℕ) : Type 0 where
   pub is_first : (k == 0) ≡ (m == 0)
   pub start : slice_index a.starts k ≡ slice_index b.starts m

@@ -3,7 +3,7 @@ use Rattle.std.specs.Prelude.{◌≡◌, ℕ, ◌+◌, ◌*◌, ◌^◌, ◌<◌
 use Rattle.lines.specs.Visual.{Line}
 use Rattle.lines.specs.Widths.{widths_of}
 
--- the list if the flag is true, such as the advances of a line if it is measured
+-- the list, or `None` if the flag is false: for example, the advances of a line that may be measured
 abbrev pub given_if : Bool → List ℕ → Option (List ℕ)
 given_if is_given items = if is_given then Some items else None
 
@@ -24,8 +24,8 @@ on_line line items = slice_range items line.start (line.start + length line.leve
 abbrev pub AreWidthsOf : ℕ → List ℕ → List ℕ → List ℕ → List Line → Type 0
 AreWidthsOf tab_width text advances widths lines = All (λ line. on_line line widths ≡ widths_of tab_width (Some (on_line line advances)) (on_line line text)) lines
 
--- A paragraph stores its advances and widths in one list: the advances and, if there are tab stops, the widths
--- after them. Without tab stops, the widths are the advances.
+-- A paragraph stores its advances and widths in one list: the advances come first, and the widths follow if
+-- there are tab stops. Without tab stops, the widths are the advances.
 abbrev pub kept_advances : Bool → List ℕ → List ℕ → Option (List ℕ)
 kept_advances is_measured text sizes = given_if is_measured (take (length text) sizes)
 

@@ -39,9 +39,9 @@ pub record RunsAdjoin (line : Visual) : Type 0 where
   pub odd : (j k : ℕ) → AreInRun line j k → is_odd (slice_index line.levels j) ≡ true
       → columns_left line (slice_index line.ltov k + 1) + columns_between line j k ≡ columns_left line (slice_index line.ltov j + 1)
 
--- Whether these characters are adjacent on the line, in logical order from left to right: all characters of a level run at
--- an even level; in a level run at an odd level, those of one cluster. `ends` says where the clusters of the line's paragraph end. The
--- line starts at `start`.
+-- Whether characters are adjacent on the line, in logical order from left to right. In a level run at an even
+-- level, all characters are. At an odd level, the characters of each cluster are. `ends` says where the
+-- clusters of the line's paragraph end. The line starts at `start`.
 pub record ClustersAdjoin (line : Visual) (ends : List Bool) (start : ℕ) : Type 0 where
   pub even : (j k : ℕ) → AreInRun line j k → is_odd (slice_index line.levels j) ≡ false
       → columns_left line (slice_index line.ltov k) ≡ columns_left line (slice_index line.ltov j) + columns_between line j k

@@ -1,4 +1,4 @@
--- A line as a `Fill` returns it.
+-- The line that a part returned by a `Fill` describes.
 use Rattle.lines.specs.Visual.{Line}
 use Rattle.lines.specs.declared.fill.Part.{Part}
 

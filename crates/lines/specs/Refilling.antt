@@ -3,9 +3,9 @@ use Rattle.std.specs.Prelude.{◌≡◌, ℕ, suc, ◌+◌, ◌-◌, ◌<◌, �
 use Rattle.lines.specs.Filling.{cluster_ends_at, line_starts_of, may_end}
 use Rattle.lines.specs.declared.char_info.CharInfo.{CharInfo}
 
--- From each line start on, the line starts are the same as if the paragraph began there. So if two paragraphs have
--- the same characters from line starts s and t to their ends, all later line starts are equally far from s and from
--- t.
+-- From each line start on, the line starts are the same as if the paragraph began there. So if a paragraph
+-- has the same characters from its line start s on as another paragraph from its line start t on, the line
+-- starts after s and after t are at the same distances from s and t.
 pub record StartsFollow (nobreak : Bool) (width : ℕ) (ps qs : List CharInfo) : Type 0 where
   pub alone : (i s : ℕ) → slice_get (line_starts_of nobreak width ps) i ≡ Some s
       → drop i (line_starts_of nobreak width ps) ≡ map (λ k. s + k) (line_starts_of nobreak width (drop s ps))

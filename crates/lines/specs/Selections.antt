@@ -41,9 +41,9 @@ pub record IsReached (line : Visual) (at : Reached) : Type 0 where
   pub few : at.column ≤ 4294967295 * at.place
   pub limit : length line.vtol ≤ PARAGRAPH_LIMIT
 
--- Whether all characters from one visual position up to another that occupy columns are selected, or none of
--- them if `inside` is false. The character at the other position occupies columns, and the opposite holds for
--- it.
+-- Whether all characters that occupy columns, from visual position `old` up to `new`, are selected if
+-- `inside` is true, and none of them if `inside` is false. The character at `new`, if there is one, occupies
+-- columns, and is selected only if `inside` is false.
 pub record Passes (s : Selection) (inside : Bool) (old new : ℕ) : Type 0 where
   pub forward : old ≤ new
   pub passed : (place : ℕ) → old ≤ place → place < new → 0 < columns_on (selected_in s) place → is_selected (selected_in s) s.start s.end place ≡ inside

@@ -16,7 +16,7 @@ abbrev pub is_space_within : ℕ → List CharInfo → ℕ → Bool
 is_space_within margin line k = is_space (place_at line k).trailing && nat_le (columns (take (suc k) line)) margin
 
 -- The characters before the tail are shown, however wide they are. If there is a margin, the spaces that follow are
--- shown too, up to the first character that is not a space within the margin.
+-- also shown, up to the first character that is not a space or does not end within the margin.
 abbrev pub shown_len : Option ℕ → List CharInfo → ℕ
 shown_len None line = text_len line
 shown_len (Some margin) line = unwrap_or (least (λ k. not (is_space_within margin line k)) (text_len line) (length line - text_len line)) (length line)

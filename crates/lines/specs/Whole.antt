@@ -10,15 +10,15 @@ use Rattle.breaks.specs.Bases.{base_class, character, resolved}
 use Rattle.breaks.specs.Classes.{is_one_of}
 use Rattle.lines.specs.CharInfos.{may_trail, trailing_in}
 
--- whether a line must end after a character of this class, as resolved by LB1; the exception for CR LF is not covered
+-- whether a line must end after a character of this class, as resolved by LB1; CR counts even before LF
 abbrev pub ends_line : LineClass → Bool
 ends_line class = is_one_of (BK ∷ []) (base_class class) || is_one_of (CR ∷ LF ∷ NL ∷ []) (base_class class)
 
--- whether a character with these properties has no mandatory break after it; the exception for CR LF is not covered
+-- whether a character with these properties does not end its line; CR counts as an end even before LF
 abbrev pub may_go_on : Properties → Bool
 may_go_on p = not (ends_line (resolved p.line_class p.is_mark))
 
--- whether no character except the last has a mandatory break after it
+-- whether no character except the last is of a class after which a line must end
 abbrev pub IsWhole : Tables → List ℕ → Type 0
 IsWhole t text = (j : ℕ) → j + 1 < length text → ends_line (character t (slice_index text j)).class ≡ false
 

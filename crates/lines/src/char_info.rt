@@ -21,7 +21,7 @@ use breaks::{Mark, marks_are_as_many};
 use std::alloc::{AllocError, Global};
 use ucd::{LineClass, Properties, Tables};
 
-/// The role of a character in a tail, which is what follows the text of a line.
+/// The role of a character in the tail of a line, which is the spaces and separators at the end of the line.
 #[derive(Clone, Copy, Debug, PartialEq, Eq)]
 pub enum Trailing {
     /// The character is never in a tail.
@@ -47,7 +47,7 @@ pub struct CharInfo {
     pub ends_cluster: bool,
 }
 
-// The placeholder in a new list, whose items are all overwritten.
+// A placeholder for the items of a new list, all of which are overwritten.
 const NOTHING: CharInfo = CharInfo {
     columns: 0,
     trailing: Trailing::No,
@@ -107,8 +107,8 @@ impl CharInfo {
         before + size as usize
     }
 
-    /// Returns whether the character is a space, and the line up to its end is no wider than the margin,
-    /// given the character's size and the width before it.
+    /// Returns whether the character is a space, and the line up to the end of the character is no wider than
+    /// the margin, given the character's size and the width before it.
     pub(crate) fn is_space_within(self, size: u32, before: u32, margin: u32) -> bool
         ensures { result ≡ (is_space self.trailing
             && nat_le (advance before (record self { columns = size })) margin) }
@@ -117,7 +117,7 @@ impl CharInfo {
     }
 }
 
-/// Returns the role of characters of a class in a tail.
+/// Returns the role in a tail of characters with this line breaking class.
 pub(crate) fn trailing_of(class: LineClass) -> Trailing
     ensures { (is_mark : Bool) → result ≡ trailing_by (resolved class is_mark) }
 {
@@ -207,7 +207,7 @@ impl Sum {
     }
 }
 
-/// Buffers that each paragraph reuses: the `CharInfo` of each character, and a cache of column widths.
+/// Buffers that are reused for each paragraph: the `CharInfo` of each character, and a cache of columns.
 #[derive(Drop)]
 pub(crate) struct InfoBuffers {
     pub(crate) infos: Vec<CharInfo>,
@@ -301,7 +301,7 @@ fn put_infos(
 /// The number of characters that are tested together, or whose columns are added together.
 pub(crate) const GROUP: usize = 8;
 
-// Overwrites `infos` if there are no tab stops.
+// Implements `put_infos` if there are no tab stops.
 fn put_without_tabs(
     tables: &Tables,
     text: &[char],
@@ -375,7 +375,7 @@ fn put_each(
 {
     let mut k = 0;
     while k < text.len() {
-        // The columns come first, so that fewer values must be kept during the lookup.
+        // Look up the columns first, so that fewer values must be kept during the lookup.
         let columns = cache.columns(text[k]);
         infos[k] = CharInfo::of_other(columns, properties[k], marks[k]);
         k += 1;

@@ -230,8 +230,8 @@ fn window_end(text: &[char], k: usize) -> usize
     text.len()
 }
 
-// Returns whether the characters on both sides of index `k` show that the texts before and after it have the
-// same clusters as the whole text.
+// Returns whether the two characters around index `k` show that `k` is a split point: the clusters of the
+// text before `k` and of the text from `k` on are the clusters of the whole text.
 fn is_split_point(text: &[char], k: usize) -> bool
     requires some { 0 < k }
     requires within { k < length text.now }

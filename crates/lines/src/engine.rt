@@ -43,11 +43,12 @@ use ucd::Tables;
 /// The maximum number of characters in a paragraph.
 pub const PARAGRAPH_LIMIT: usize = 1_048_576;
 
-// The limit that the documents state. Contracts refer to the constant.
+// The documentation states this number. Contracts refer to the constant.
 const _: () = prove!(PARAGRAPH_LIMIT == 1_048_576);
 
 /// Lays out paragraphs using its tables and options, and counts the work. The engine never lends its tables
-/// to a caller, so all layout done with them is counted. What `level_reasons` and `break_reasons` do is not.
+/// to a caller, so all layout done with them is counted. The work of `level_reasons` and `break_reasons` is
+/// not counted.
 pub struct Engine {
     tables: Tables,
     options: Options,
@@ -162,7 +163,8 @@ impl Engine {
     }
 
     /// Keeps the lists of a layout that is no longer needed. The next paragraph that is laid out uses them if
-    /// their capacity is suitable. Only the lists of one layout are kept, until `free_buffers`.
+    /// their capacity is suitable. Keeps the lists of only one layout at a time, until `free_buffers` is
+    /// called.
     pub fn recycle(&mut self, laid: Laid)
         ensures { self.new ≡ self.old }
     {
@@ -171,8 +173,8 @@ impl Engine {
         }
     }
 
-    /// Returns an empty list for the text of the next paragraph, which has about `len` characters. It has the
-    /// capacity of a recycled text, if that capacity is suitable. Allocates nothing.
+    /// Returns an empty list for the text of the next paragraph, which has about `len` characters. The list
+    /// has the capacity of a recycled text, if that capacity is suitable. Allocates nothing.
     pub fn take_text(&mut self, alloc: Global, len: usize) -> Vec<char>
         ensures text { result.items ≡ [] }
         ensures same { self.new ≡ self.old }
@@ -249,8 +251,8 @@ impl Engine {
         self.counts.written.get()
     }
 
-    /// Returns whether a paragraph has exactly one line and this line fits the width, so that it stays as
-    /// it is. If spaces at the end of lines are shown, the line must not hide a space that would fit,
+    /// Returns whether a paragraph has exactly one line and this line fits the width, so that the line stays
+    /// the same. If spaces at the end of lines are shown, the line must not hide a space that would fit,
     /// either. The paragraph must have been laid out with this engine's tables and options.
     pub fn keeps_lines(&self, laid: &Laid, width: u32) -> bool
         ensures value { result ≡ keeps_lines (rules_of self.now) width laid.now }
@@ -258,7 +260,7 @@ impl Engine {
             → IsLaidOut (with_advances (rules_of self.now) advances) laid.now
             → lines_of (with_advances (rules_of self.now) advances) width laid.now.text ≡ laid.now.lines }
     {
-        // By this theorem, a line of the whole paragraph may end after the last character.
+        // By this theorem, the last break mark of each paragraph is `Must`.
         paragraphs_end_at_must();
         self.is_kept(laid, width)
     }
@@ -477,8 +479,8 @@ impl Engine {
     /// select no lines. Writes the same bytes as [`Engine::write_paragraph`] at any width, and counts the
     /// same characters. Fails only if the sink fails.
     ///
-    /// Allocates nothing. Reads each byte once to count the characters, but decodes only those up to the one
-    /// that decides the direction, which is usually the first one.
+    /// Allocates nothing. Reads each byte once to count the characters, but decodes only the characters up to
+    /// the one that decides the direction, which is usually the first one.
     pub fn write_base_direction<W: Sink>(
         &mut self,
         text: &str,

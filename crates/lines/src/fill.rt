@@ -99,7 +99,7 @@ impl Fill {
         }
     }
 
-    /// Returns the lists for reuse.
+    /// Returns the lists of the `Fill` as buffers, for reuse.
     pub(crate) fn into_buffers(self) -> LineBuffers {
         let Fill {
             extents,
@@ -265,7 +265,7 @@ impl Fill {
     }
 }
 
-/// The characters of a paragraph, its base level and its tab width.
+/// The characters of a paragraph, its advances and widths if measured, its base level and its tab width.
 #[derive(Clone, Copy)]
 pub(crate) struct LaidText<'a> {
     pub(crate) text: &'a [char],

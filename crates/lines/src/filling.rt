@@ -204,7 +204,7 @@ fn fitting_len<S: Sizes>(rest: &[CharInfo], ruler: Ruler<S>) -> usize
 }
 
 // Reads groups of characters while they fit on the first line and contain no mandatory break. Returns the
-// number of characters and their columns.
+// number of characters read and their columns.
 fn fitting_groups<S: Sizes>(rest: &[CharInfo], ruler: Ruler<S>) -> (usize, usize)
     requires { length rest.now ≤ PARAGRAPH_LIMIT }
     ensures { FitsUpTo ruler.width (sized (S.given ruler.sizes) rest.now) result.0 result.1 }

@@ -95,7 +95,7 @@ impl Laid {
     ghost use Rattle.lines.specs.Visual.{visual_of};
     ghost use Rattle.lines.specs.Writing.{PassedOn, StoppedIn};
 
-    /// Returns, for reuse, the list of the text and the lists that every paragraph has.
+    /// Returns the text and the other lists for reuse, except `sizes`, which only measured paragraphs need.
     pub(crate) fn into_lists(self) -> (Vec<char>, LayoutBuffers) {
         let Laid {
             text,
@@ -361,7 +361,8 @@ impl Laid {
         })
     }
 
-    /// Swaps the lines with those at another width, found with the same tables and options.
+    /// Swaps the lines with those in `fill`, which must be the lines of the same text at some width, found
+    /// with the same tables, options and advances.
     pub fn exchange(&mut self, fill: &mut Fill)
         requires { (rules : Rules) × IsLaidOut rules self.old × AreLinesOf rules self.old.text fill.old }
         ensures { Exchanges self.old self.new fill.old fill.new }
@@ -412,8 +413,8 @@ impl Laid {
     ///
     /// Reads backward and forward from the character to the nearest places where a cluster ends regardless of
     /// other characters, such as before most letters and emoji. In the worst case, such as a paragraph of
-    /// flags, reads the whole paragraph. Allocates a copy of these characters if there is more than one.
-    /// Otherwise, cannot fail.
+    /// flags, reads the whole paragraph. Allocates a copy of the characters between these two places if there
+    /// is more than one. Otherwise, cannot fail.
     pub fn cluster(
         &self,
         alloc: std::alloc::Global,
@@ -475,7 +476,7 @@ pub(crate) fn with_room(advances: Vec<u32>, tab_width: u8) -> Result<Vec<u32>, A
     Ok(sizes)
 }
 
-/// Replaces the widths that a measured paragraph keeps with those on its lines.
+/// Replaces the stored widths of a measured paragraph with the widths that its characters have on `lines`.
 pub(crate) fn put_all_widths(
     is_measured: bool,
     text: &[char],

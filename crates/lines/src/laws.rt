@@ -86,8 +86,8 @@ pub fn tabs_end_at_stops()
         → All TabsEndAtStops (visuals (layout_of rules width text)) }
 {}
 
-/// States, as a theorem, that all line starts after a given one do not depend on the characters before it,
-/// with and without `nobreak`, and at any width. Costs nothing at run time.
+/// States, as a theorem, that the line starts after a given line start do not depend on the characters before
+/// that start, with and without `nobreak`, and at any width. Costs nothing at run time.
 pub fn later_lines_follow()
     ensures { (nobreak : Bool) (width : ℕ) (before after : List CharInfo)
         → StartsFollow nobreak width before after }

@@ -126,8 +126,8 @@ pub(crate) fn fill_lines(
     fill_lines_by(clusters, paragraph, infos, width, lines, filled, written)
 }
 
-// Replaces the contents of `lines` with the line of a paragraph that is not measured and is one line at a
-// width.
+// Replaces the contents of `lines` with the only line of a paragraph. The paragraph is not measured, and is
+// one line at the given width.
 fn show_one_line(
     paragraph: &Paragraph<'_>,
     shown: Shown,

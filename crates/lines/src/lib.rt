@@ -22,9 +22,9 @@
 //! }
 //! ```
 //!
-//! An engine also writes a paragraph's lines without keeping them (`write_paragraph`), or the base direction
-//! of a paragraph without decoding it (`write_base_direction`). With `extents` and `reflow`, it changes the
-//! width of a layout in place. For a text of many paragraphs, see the crate `session`.
+//! An engine also writes a paragraph's lines without keeping them (`write_paragraph`), or only the base
+//! direction of a paragraph of UTF-8 text (`write_base_direction`). With `extents` and `reflow`, it changes
+//! the width of a layout in place. For a text of many paragraphs, see the crate `session`.
 #![tactic(auto)]
 
 mod buffers;

@@ -1,4 +1,4 @@
-//! How many lines of two layouts are the same, at their start and at their end.
+//! Counts how many lines two layouts share at their start and at their end.
 ghost use Rattle.std.specs.Prelude.{◌≡◌, ◌<◌, ℕ, true, length, slice_get};
 ghost use Rattle.lines.specs.Extents.{extents_of};
 ghost use Rattle.lines.specs.Layouts.{layout_of, visuals, IsLaidOut, Rules};
@@ -8,8 +8,8 @@ use crate::extents::{Extents, end_of};
 use crate::laid::Laid;
 
 impl Laid {
-    /// Returns how many lines at the start are the same as those at the start of another layout, as
-    /// `VisualLine::is_same` compares them.
+    /// Returns how many lines this layout and another one share at the start, compared by
+    /// `VisualLine::is_same`.
     pub fn matching_at_start(&self, other: &Laid) -> usize
         ensures { MatchAtStart (visuals self.now) (visuals other.now) result }
     {
@@ -22,8 +22,8 @@ impl Laid {
         most
     }
 
-    /// Returns how many lines at the end are the same as those at the end of another layout, as
-    /// `VisualLine::is_same` compares them.
+    /// Returns how many lines this layout and another one share at the end, compared by
+    /// `VisualLine::is_same`.
     pub fn matching_at_end(&self, other: &Laid) -> usize
         ensures { MatchAtEnd (visuals self.now) (visuals other.now) result }
     {
@@ -50,7 +50,8 @@ impl Laid {
         }
     }
 
-    /// Returns how many lines at the start stay the same at another width, given their extents at that width.
+    /// Returns how many lines at the start stay the same at another width, given the paragraph's extents at
+    /// that width.
     pub fn staying_at_start(&self, extents: &Extents) -> usize
         ensures { (rules : Rules) (width : ℕ) → IsLaidOut rules self.now
             → extents.now ≡ extents_of rules width self.now.text
@@ -66,7 +67,8 @@ impl Laid {
         most
     }
 
-    /// Returns how many lines at the end stay the same at another width, given their extents at that width.
+    /// Returns how many lines at the end stay the same at another width, given the paragraph's extents at
+    /// that width.
     pub fn staying_at_end(&self, extents: &Extents) -> usize
         ensures { (rules : Rules) (width : ℕ) → IsLaidOut rules self.now
             → extents.now ≡ extents_of rules width self.now.text
@@ -92,8 +94,8 @@ impl Extents {
         self.starts().len()
     }
 
-    // Returns whether line `k` has the same place in a paragraph of `len` characters as line `m` of other
-    // extents, and an equally large shown part.
+    // Returns whether line `k` has the same start, the same end and an equally large shown part as line `m`
+    // of other extents, in a paragraph of `len` characters. Either both or neither must be the first line.
     fn has_same_place(&self, k: usize, other: &Extents, m: usize, len: usize) -> bool
         requires k { k < length self.now.starts }
         requires m { m < length other.now.starts }

@@ -4,7 +4,7 @@ ghost use Rattle.bidi.specs.declared.base.Base.TheVariants.{WeakLtr};
 
 use bidi::Base;
 
-/// What a layout depends on, besides the tables and the width.
+/// The options that a layout depends on, besides the text, the tables and the width.
 #[derive(Clone, Copy, Debug, PartialEq, Eq)]
 pub struct Options {
     /// How base levels are determined.

@@ -92,8 +92,9 @@ impl Workspace {
     }
 }
 
-// Returns whether a nonempty paragraph is one line because `nobreak` is set, its shown part does not depend
-// on columns, and its characters are not printed.
+// Returns whether `write_one_line` can write a paragraph. The paragraph must not be empty, and must be one
+// line because `nobreak` is set. Its shown part must not depend on columns, and its characters must not be
+// printed.
 fn is_one_line(form: &Form<'_>, text: &Text<'_>) -> bool
     requires { IsLookedUp text.now }
     ensures nobreak { result ≡ true → text.now.rules.options.nobreak ≡ true }
@@ -164,8 +165,8 @@ fn write_one_line<W: Sink>(
     }
 }
 
-// Finds where each line of a paragraph starts, and how much of it is shown. Grows the other buffers to the
-// length of the paragraph. Uses `marks` as a buffer for its break marks.
+// Finds where each line of a paragraph starts, and how much of it is shown. Grows the buffers in
+// `lines.visual` to the length of the paragraph. Uses `marks` as a buffer for its break marks.
 fn fill_spans(
     clusters: &mut ClusterBuffers,
     text: &Text<'_>,

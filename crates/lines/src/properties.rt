@@ -22,7 +22,7 @@ pub(crate) fn fill_properties(
     Ok(())
 }
 
-// Overwrites the front of a list.
+// Overwrites the front of `properties` with the properties of each character.
 fn look_up_front(tables: &Tables, text: &[char], properties: &mut [Properties])
     requires { length text.now ≤ length properties.old }
     ensures { take (length text.now) properties.new ≡ map (properties_of tables.now) text.now }

@@ -105,7 +105,7 @@ fn make_characters(list: &mut Vec<char>, len: usize) -> Result<(), AllocError>
 }
 
 /// Overwrites the levels before L1 with those after L1, and writes the position maps and characters of each
-/// line's shown part. `maps` has one half per position map. Counts the characters.
+/// line's shown part. Each half of `maps` holds one position map. Counts the characters.
 pub(crate) fn show_all(
     text: &Text<'_>,
     extents: &Extents,
@@ -375,7 +375,7 @@ fn order_part(line: &Text<'_>, levels: &[u8], vtol: &mut [u32], ltov: &mut [u32]
     }
 }
 
-// Writes the logical position of each visual position of a line's shown part, to which L3 is applied.
+// Writes the logical position of each visual position of a line's shown part. The options must apply L3.
 fn place_part(line: &Text<'_>, levels: &[u8], places: &mut [u32])
     requires line { IsLookedUp line.now }
     requires limit { length line.now.characters.now ≤ PARAGRAPH_LIMIT }

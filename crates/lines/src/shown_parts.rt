@@ -16,8 +16,9 @@ use crate::reserve::reserve;
 use crate::sizes::Sizes;
 use std::alloc::AllocError;
 
-/// Appends the length and the columns of each line's shown part to the starts of the lines. The shown part is
-/// the line without its tail, plus the spaces of the tail that end within the margin.
+/// Appends the length and the columns of each line's shown part to `items`, which holds the starts of the
+/// lines. The shown part is the line without its tail, plus the spaces of the tail that end within the
+/// margin.
 pub(crate) fn fill_shown<S: Sizes>(
     infos: &[CharInfo],
     sizes: S,
@@ -82,7 +83,8 @@ fn shown_of<S: Sizes>(line: &[CharInfo], sizes: S, margin: Option<u32>) -> Shown
     }
 }
 
-// Extends the characters before the tail by the spaces that follow them and end within the margin.
+// Returns how much of a line is shown: the characters before the tail, given as `text`, and the spaces that
+// follow them and end within the margin.
 fn with_spaces<S: Sizes>(line: &[CharInfo], sizes: S, text: Shown, margin: u32) -> Shown
     requires limit { length line.now ≤ PARAGRAPH_LIMIT }
     requires room { (k : ℕ) → k ≤ length line.now → S.most sizes k < 2 ^ 32 }

@@ -1,5 +1,5 @@
-//! The sizes of characters, which determine their widths: their columns, or the advances that the caller
-//! measured.
+//! The sizes of characters: their columns or, in a measured paragraph, their advances. The size of a
+//! character determines its width.
 ghost use Rattle.std.specs.Prelude.{◌≡◌, ◌+◌, ◌*◌, ◌^◌, ◌<◌, ◌≤◌, nat_lt, ℕ, false, List, None, Option, Some};
 ghost use Rattle.std.specs.Prelude.{drop, fold, length, slice_range, sum, take, IfSome};
 ghost use Rattle.std.specs.List.{list_any};
@@ -23,8 +23,8 @@ pub fn advances_fit(advances: &[u32]) -> bool
     sum < 1 << 32
 }
 
-/// The sizes of the characters of a paragraph, or of its end. `infos` must be the infos of the same
-/// characters.
+/// The sizes of the characters of a paragraph from some character on. `infos` must start at the same
+/// character.
 pub(crate) trait Sizes: Copy {
     // The advances, if the paragraph is measured.
     ghost given: { Self → Option (List ℕ) };
@@ -32,7 +32,7 @@ pub(crate) trait Sizes: Copy {
     // An upper bound on the total size of the first characters.
     ghost most: { Self → ℕ → ℕ };
 
-    /// Returns the sizes from a character on.
+    /// Returns the sizes from character `start` on.
     fn from(self, start: usize) -> Self
         ensures sizes { (infos : List CharInfo)
             → sized (given result) (drop start infos) ≡ drop start (sized (given self) infos) }

@@ -15,7 +15,7 @@ pub struct Span {
     pub right: usize,
 }
 
-/// An iterator over the columns that a range of a line's characters covers (`VisualLine::spans`).
+/// An iterator over the spans of columns that a range of a line's characters covers (`VisualLine::spans`).
 #[derive(Debug, Drop)]
 pub struct Spans<'a> {
     selection: Selection<'a>,
@@ -126,8 +126,8 @@ impl<'a> Iterator for Spans<'a> {
     }
 }
 
-// Returns the first visual position, from `at` on, whose character occupies columns and is not selected if
-// `inside` is true, or is selected if `inside` is false. If there is none, returns the end of the line.
+// Skips the characters from `at` on that are selected if `inside` is true, or not selected if `inside` is
+// false. Also skips characters that occupy no columns. Returns the visual position after these characters.
 fn pass(selection: &Selection<'_>, at: Reached, inside: bool) -> Reached
     requires within { AreWithin (length selection.now.text.now) selection.now.vtol.now }
     requires measures { IsMeasured selection.now }

@@ -27,8 +27,8 @@ use reorder::{Runs, level_runs};
 use std::marker::Model;
 
 /// A visual line. All methods except `is_first`, `base` and `len` refer to the shown part, which is the line
-/// without the spaces and separators at its end. Positions are counted from the start of the shown part.
-/// Columns are the caller's units in a measured paragraph.
+/// without the hidden spaces and separators at its end. Positions are counted from the start of the shown
+/// part. In a measured paragraph, columns are in the caller's unit.
 #[derive(Debug, Drop)]
 pub struct VisualLine<'a> {
     pub(crate) is_first: bool,
@@ -146,9 +146,9 @@ impl<'a> VisualLine<'a> {
         self.columns
     }
 
-    /// Returns whether all methods return the same for both lines: the characters, the levels, the maps, the
-    /// columns, the base level, the length, and whether they are the first of their paragraph. In a measured
-    /// paragraph, also compares the advances.
+    /// Returns whether all methods return the same results for both lines. Compares the characters, the
+    /// levels, the position maps, the columns, the base levels, the lengths, and whether each line is the
+    /// first of its paragraph. In a measured paragraph, also compares the advances.
     pub fn is_same(&self, other: &VisualLine<'_>) -> bool
         ensures yes { result ≡ true → self.now ≡ other.now }
         ensures no { self.now ≡ other.now → result ≡ true }
@@ -162,7 +162,7 @@ impl<'a> VisualLine<'a> {
             && (!self.is_measured || self.advances == other.advances)
     }
 
-    // Returns whether two lines are the same except for their lists.
+    // Returns whether two lines agree in every field that is not a list.
     fn has_form_of(&self, other: &VisualLine<'_>) -> bool
         ensures yes { result ≡ true → HaveSameForm self.now other.now }
         ensures no { HaveSameForm self.now other.now → result ≡ true }
@@ -175,8 +175,8 @@ impl<'a> VisualLine<'a> {
             & (self.is_measured == other.is_measured)
     }
 
-    /// Returns the number of columns to the left of a visual position, or the line's width past the last
-    /// position. Columns are those of the text's characters, not of their mirrors.
+    /// Returns the number of columns to the left of a visual position, or the line's width if the position is
+    /// past the last one. Columns are those of the text's characters, not of their mirrored forms.
     pub fn columns_left(&self, place: usize) -> usize
         ensures value { result ≡ columns_left self.now place }
         ensures fits { result < 2 ^ 63 }
@@ -190,7 +190,7 @@ impl<'a> VisualLine<'a> {
     }
 
     /// Returns the width in columns of the character at a visual position, or 0 past the last position. The
-    /// width is that of the text's character, not of its mirror.
+    /// width is that of the text's character, not of its mirrored form.
     pub fn columns_at(&self, place: usize) -> usize
         ensures { result ≡ columns_at self.now place }
     {
@@ -265,9 +265,8 @@ impl<'a> VisualLine<'a> {
         level_runs(self.levels)
     }
 
-    /// Returns the number of columns of padding that the line has at a width, unless printing omits padding.
-    /// Only lines of right-to-left paragraphs have padding. In a measured paragraph, the padding is not
-    /// printed.
+    /// Returns the padding to the left of the line at a width, in columns. Only lines of right-to-left
+    /// paragraphs have padding. The padding is not printed in a measured paragraph, or if `nopad` is set.
     pub fn padding(&self, width: u32) -> u32
         ensures value { result ≡ padding_of width self.now }
         ensures spaces { (print : Print) → print.nopad ≡ false → is_measured self.now ≡ false

@@ -24,7 +24,7 @@ use breaks::marks_are_as_many;
 use device::Sink;
 use ucd::{LineClass, Properties};
 
-/// Returns whether the paragraph has no mandatory break before its end.
+/// Returns whether no character of the paragraph except the last is of a class after which a line must end.
 pub(crate) fn is_whole(text: &Text<'_>) -> bool
     requires { IsLookedUp text.now }
     ensures yes { result ≡ true → IsWhole text.now.rules.tables.now text.now.characters.now }
@@ -38,7 +38,8 @@ pub(crate) fn is_whole(text: &Text<'_>) -> bool
 // the last group overlaps the one before it, so that no characters have to be tested one by one.
 const AT_ONCE: usize = 16;
 
-// Returns whether none of the characters has a mandatory break after it, except between CR and LF.
+// Returns whether none of the characters is of a class after which a line must end. CR counts as such a class
+// even before LF.
 fn end_no_line(properties: &[Properties]) -> bool
     ensures { result ≡ list_all may_go_on properties.now }
 {
@@ -67,8 +68,8 @@ fn end_none(properties: &[Properties]) -> bool
     none
 }
 
-// Returns whether a line must end after a character of a class, except between CR and LF. Uses comparisons
-// instead of a `match`, so that the loop above has no branches.
+// Returns whether a line must end after a character of a class. Returns `true` for CR, even though no line
+// ends between CR and LF. Uses comparisons instead of a `match`, so that the loop above has no branches.
 fn ends_line(class: LineClass) -> bool
     ensures { (is_mark : Bool) → result ≡ ends_line (resolved class is_mark) }
 {

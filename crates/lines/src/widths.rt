@@ -87,8 +87,8 @@ pub(crate) fn is_tab(tab_width: u8, c: char) -> bool
     tab_width > 0 && c == '\t'
 }
 
-// Returns the columns of the characters before index `k` that follow the last tab, or the start of the line.
-// A tab ends at a tab stop, and a line starts at one.
+// Returns the total columns of the characters between the last tab before index `k`, or the start of the
+// line, and index `k`. A tab ends at a tab stop, and a line starts at one.
 fn since_stop(text: &[char], k: usize) -> usize
     requires { k ≤ length text.now }
     ensures { (tab_width : ℕ) → 0 < tab_width

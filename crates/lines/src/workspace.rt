@@ -71,7 +71,7 @@ impl Workspace {
         (self.text, self.recycled) = laid.into_lists();
     }
 
-    /// Returns an empty list, with the capacity of a recycled text if that is about `len`.
+    /// Returns an empty list. The list has the capacity of a recycled text, if that capacity is about `len`.
     pub(crate) fn take_text(&mut self, alloc: Global, len: usize) -> Vec<char>
         ensures { result.items ≡ [] }
     {
@@ -100,7 +100,7 @@ fn fits(capacity: usize, len: usize) -> bool {
     capacity >= len && capacity - len <= len / 8 + 16
 }
 
-/// Returns an engine's workspace, which is allocated for its first paragraph.
+/// Returns an engine's workspace. Allocates the workspace if there is none yet.
 pub(crate) fn ready(
     work: &mut Option<Box<Workspace>>,
     alloc: Global,
@@ -160,8 +160,8 @@ impl Analysis {
     }
 }
 
-/// Replaces `ends` with where the grapheme clusters of a paragraph end, if its lines are ordered by clusters,
-/// or else with an empty list.
+/// Replaces the contents of `ends` with where the grapheme clusters of a paragraph end, if its lines are
+/// ordered by clusters. Otherwise, clears `ends`.
 pub(crate) fn fill_ends(
     clusters: &mut ClusterBuffers,
     options: Options,

@@ -1,8 +1,8 @@
 //! Calls every function that never allocates, on tables, engines, stores and sessions created beforehand.
 //!
 //! `no_allocation ROUNDS` makes all these calls ROUNDS times, and prints, for each group of calls, a digest
-//! of the results. `tests/fault_injection/run` checks that more rounds allocate nothing more, and print the
-//! same digests.
+//! of the results. `tests/fault_injection/run` checks that a larger ROUNDS causes no further allocation
+//! and leaves the digests unchanged.
 #![tactic(auto)]
 
 mod layouts;

@@ -81,7 +81,7 @@ pub fn digest<S: ParagraphStore<Item> + Drop>(alloc: Global, rounds: u32) -> Res
     Ok(sum)
 }
 
-// Returns the sum of the lines, or 2^64−1 if it is greater.
+// Returns the sum of the lines, saturating at 2^64−1.
 fn sum(parts: &[usize]) -> usize
     ensures { result < 2 ^ 64 - 1 → result ≡ sum_by (λ lines. lines) parts.now }
 {

@@ -1,4 +1,4 @@
-//! The calls for lookups, paragraph boundaries and base levels.
+//! Calls that look up characters, and find paragraph boundaries and base levels.
 use bidi::{Base, base_level, first_cut, is_cut};
 use lines::{Engine, Options};
 use oom_calls::Wrong;
@@ -31,7 +31,7 @@ pub fn mixed(sum: u64, number: u64) -> u64 {
     sum.wrapping_mul(31).wrapping_add(number)
 }
 
-/// Adds a truth value to a digest.
+/// Adds a Boolean to a digest.
 pub fn mixed_flag(sum: u64, flag: bool) -> u64 {
     mixed(sum, u64::from(flag))
 }

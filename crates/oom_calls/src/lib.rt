@@ -10,5 +10,5 @@ pub mod tables;
 
 pub use page::{Printed, Writer};
 
-/// A message that says what is wrong with a result.
+/// A message that states why a result is wrong.
 pub type Wrong = &'static str;

@@ -11,7 +11,7 @@ use std::alloc::Global;
 // One paragraph, with a letter for each of its lines at width 1.
 const TEXT: &str = "a\u{5d0}(1)";
 
-/// Lays out a paragraph, and fills it again.
+/// Lays out a paragraph, and fills the paragraph again at another width.
 pub fn try_calls(alloc: Global) -> Result<(), Wrong> {
     let mut engine = engine(alloc)?;
     let answer = try_calls_by(alloc, &mut engine);

@@ -1,4 +1,4 @@
-//! Calls to a session. Each call is made in its own session, which is compared with an unchanged one.
+//! Calls to a session. Each call is made in its own session, which is compared with an unchanged session.
 use crate::Wrong;
 use crate::page::{Printed, Writer};
 use crate::tables::{engine, let_go};

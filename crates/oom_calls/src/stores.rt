@@ -6,7 +6,7 @@ use std::alloc::{AllocError, Global};
 use std::ops::Range;
 use store::{Measured, ParagraphStore};
 
-// An item of one ASCII character and one line, identified by its name.
+// An item with one ASCII character and one line, identified by its name.
 #[derive(Clone, Copy, Debug, PartialEq, Eq)]
 pub struct Item {
     name: u8,
@@ -41,8 +41,8 @@ impl Measured for Item {
 // The maximum number of items in a store.
 const LIMIT: usize = 100;
 
-// A replacement: its range, and the names of the new items, of the items before it, and of the items that it
-// returns.
+// A replacement: its range, the names of the new items, the names of all items in the store before the
+// replacement, and the names of the replaced items.
 struct Replacement {
     start: usize,
     end: usize,

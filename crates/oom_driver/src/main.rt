@@ -19,8 +19,8 @@ use std::io;
 use std::process::ExitCode;
 use store::{ParagraphStore, TreeStore, VecStore};
 
-// If a result is wrong, the output differs but the exit status does not. Any other failure, such as one in
-// printing a line, may end the program with another status.
+// If a result is wrong, the output differs but the exit status does not. Any other failure, such as a failed
+// write of a line, may end the program with another status.
 fn main(rt: HostRuntime) -> ExitCode {
     if let Some((text, script)) = list_script::files(&rt) {
         return execute(&rt, &text, &script);

@@ -1,5 +1,5 @@
-//! Runs texts and scripts as the command does. The output before an allocation failure must be that of whole
-//! paragraphs or of whole script lines.
+//! Runs texts and scripts as the command does. The output before an allocation failure must consist of
+//! whole paragraphs or of whole replies to script lines.
 use device::{FromRead, ToWrite};
 use lines::{Engine, Print};
 use oom_calls::sessions::{ALL, open};

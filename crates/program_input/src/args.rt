@@ -14,7 +14,7 @@ pub fn as_texts<'a>(alloc: Global, words: &'a [String]) -> Result<Vec<&'a str>, 
     words.iter().map(|word| word.as_str()).collect(alloc)
 }
 
-/// Returns the arguments, with `--ucd` and the folder before them.
+/// Returns the arguments, preceded by `--ucd` and the folder.
 pub fn with_folder<'a>(
     alloc: Global,
     folder: &'a str,

@@ -6,7 +6,7 @@ use std::path::{Path, PathBuf};
 use std::{env, io};
 use ucd::Version;
 
-// The folders below the usual prefixes, for a program that cannot find out where it is.
+// The folders below the usual prefixes, for a program that cannot determine its own path.
 fn usual_folders(version: Version) -> [&'static str; 2] {
     match version {
         Version::V15_0 => ["/usr/local/share/hordguli/ucd", "/usr/share/hordguli/ucd"],
@@ -18,8 +18,8 @@ fn usual_folders(version: Version) -> [&'static str; 2] {
 }
 
 /// Returns the folder of the installed table files of a version, if there is one: `path`, relative to the
-/// program's folder. If `/proc` is not mounted, looks for the program by the name under which it was started,
-/// then for the folder in `/usr/local` and `/usr`.
+/// program's folder. If `/proc` is not mounted, first looks for the program under the name by which it was
+/// started, and then for the folder in `/usr/local` and `/usr`.
 pub fn installed_folder(
     rt: &HostRuntime,
     path: &str,

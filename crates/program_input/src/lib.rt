@@ -1,6 +1,6 @@
 //! The input of a program: its arguments, the folder of installed table files, and its texts.
 //!
-//! The command needs only these functions, apart from those for edit scripts.
+//! The crate `fribidi` reads edit scripts itself.
 #![tactic(auto)]
 
 mod args;

@@ -18,7 +18,7 @@ pub fn read_text(rt: &HostRuntime, path: &str) -> Result<Vec<u8>, RunFault> {
     }
 }
 
-/// Writes the output of each text, in the order of the arguments. Without files, the text is standard input.
+/// Writes the output for each text, in the order of the arguments. Without files, reads standard input.
 pub fn write_texts(
     rt: &HostRuntime,
     output: &mut ToWrite<Stdout>,

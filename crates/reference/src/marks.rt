@@ -15,7 +15,7 @@ use std::alloc::AllocError;
 use ucd::{LineClass, Tables};
 
 /// Replaces the contents of `marks` with the mark of the position after each character of a text. Uses
-/// `classes` for the classes of the bases.
+/// `classes` as scratch space for the classes of the bases.
 pub fn reference_marks(
     tables: &Tables,
     text: &[char],

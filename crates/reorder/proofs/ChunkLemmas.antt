@@ -75,7 +75,7 @@ module _ (classes : List BidiClass) (levels : List ℕ) where
   no_base_after : (i : ℕ) → precedes_mark classes levels i ≡ false → has_base classes levels (suc i) ≡ false
   no_base_after i none = and_left (precedes_mark classes levels i) (not (is_mark_at classes i) || has_base classes levels i) none
 
-  -- the base with its marks is a chunk, and the character right after it has no base
+  -- a base with all its marks is a chunk, and the character directly after the chunk has no base
   pub group_is : (start len : ℕ) → MarksSoFar start len → is_mark_of (start + len) (get_or levels start 0) ≡ false → is_odd (get_or levels start 0) ≡ true
       → is_mark_at classes start ≡ false → IsChunk classes levels start len × (has_base classes levels (start + len) ≡ false)
   group_is start len w ended odd plain =

@@ -34,7 +34,7 @@ adjacent_at n xs x y k p a within here =
       ]
     ]
 
--- the rest of a visual order has only logical positions of the line
+-- each suffix of the visual order contains only logical positions of the line
 pub rest_within : (levels xs : List ℕ) (start : ℕ) → xs ≡ drop start (order_of levels) → AreWithin (length levels) xs
 rest_within levels xs start is k below =
     let order : List ℕ = order_of levels in
@@ -107,7 +107,7 @@ module _ (classes : List BidiClass) (levels : List ℕ) where
       base_of (get_or xs k 0) next (are.bound k (omega (arith, e)))
       ∙ ap₂ (λ (m b : Bool). not m || b) marked (unbased xs n d (k + 1) are mark free (omega (arith, e)))
 
-  -- after n bound positions, the character at the next position, which is not bound, has no base
+  -- if n positions are each bound to the next, and position n is not, the character at position n has no base
   free_of : (start : ℕ) (xs : List ℕ) (n z : ℕ) → xs ≡ drop start (order_of levels) → AreBound classes levels xs n → get_or xs n 0 ≡ z
       → has_base classes levels z ≡ false
   free_of start xs n zero is are here = refl
@@ -182,8 +182,8 @@ module _ (classes : List BidiClass) (levels : List ℕ) (start : ℕ) (xs : List
   abbrev done : List ℕ → List ℕ
   done ys = reverse_with_next (has_base classes levels) [] ys
 
-  -- once the group at the front of the list has been written, the result is the group followed by the result
-  -- for the rest
+  -- if the group at the front of `xs` has been reversed in `new`, `done xs` is this group followed by `done`
+  -- of the rest
   pub group_written : (ys new : List ℕ) → is_mark_at classes (get_or xs n 0) ≡ false → ys ≡ reverse (take (n + 1) xs) → new ≡ ys ++ drop (n + 1) xs
       → done xs ≡ take (n + 1) new ++ done (drop (n + 1) xs)
   group_written ys new plain written whole =
@@ -228,7 +228,7 @@ Grouped-next test old current ys new start n w within is sizes rest done =
           ∙ w.done;
     }
 
--- the same holds if the rest of the order is a separate list
+-- `Grouped-next` also holds if the rest of the order is a separate list `part`
 pub Grouped-part : (test : ℕ → Bool) (old current part ys : List ℕ) (start n : ℕ) → Grouped test old current start → start ≤ length current
     → part ≡ drop start current → length ys ≡ length part → drop n ys ≡ drop n part
     → reverse_with_next test [] part ≡ take n ys ++ reverse_with_next test [] (drop n part)

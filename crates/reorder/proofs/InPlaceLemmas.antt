@@ -22,7 +22,7 @@ runs_flagged test run (x ∷ xs) =
     ap (λ (front : List ℕ). if test x then front else run ++ x ∷ reverse_runs test [] xs) (runs_flagged test (x ∷ run) xs)
     ∙ ap (λ (back : List ℕ). if test x then reverse_flagged (map test xs) (x ∷ run) xs else run ++ x ∷ back) (runs_flagged test [] xs)
 
--- reversing by flags can be done before or after a function is applied to each item
+-- reversing by flags commutes with applying a function to each item
 map_flagged : (f : ℕ → ℕ) (flags : List Bool) (run xs : List ℕ) → map f (reverse_flagged flags run xs) ≡ reverse_flagged flags (map f run) (map f xs)
 map_flagged f [] run xs = refl
 map_flagged f (flag ∷ flags) run [] = refl

@@ -147,7 +147,7 @@ first_positions n vtol p =
           ∙ first_at n vtol m (get_or vtol m 0) p h refl;
     }
 
--- the two maps of a line are inverse to each other
+-- the two maps of a line are inverses of each other
 pub inverse_maps : (reordernsm : Bool) (classes : List BidiClass) (levels : List ℕ)
     → AreInverse (length levels) (vtol_of reordernsm classes levels) (ltov_of reordernsm classes levels)
 unfolding ltov_of

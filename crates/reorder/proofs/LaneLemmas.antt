@@ -1,4 +1,4 @@
--- What the bits of levels that are compared together say about the levels.
+-- What the mask from comparing several levels at once implies for these levels.
 use Rattle.std.proofs.Common.{◌≡◌, ℕ, zero, suc, ◌+◌, ◌-◌, ◌*◌, ◌/◌, ◌^◌, ◌<◌, ◌≤◌, ◌==◌, Bool, true, false, not, cond, List, [], ◌∷◌, map, length, get_or, drop, sym, ap, ap₂, ◌∙◌, arith}
 use Rattle.std.proofs.lemmas.Bool.{both_ways, eqb-true, eq-eqb, not-true, not-false}
 use Rattle.std.proofs.lemmas.List.{drop-map, drop-drop, take_all, length-drop}
@@ -19,7 +19,7 @@ is_level level x same = eqb-true x level (not-false _ same)
 is_other : (level x : ℕ) → differs level x ≡ true → ¬ (x ≡ level)
 is_other level x other = λ same. both_ways (x == level) (not-true _ other) (eq-eqb x level same)
 
--- how many of n levels from i on come before the first different one
+-- `r` is the number of levels, among the n levels from i on, before the first one that differs from `level`
 abbrev pub IsSameLen : List ℕ → ℕ → ℕ → ℕ → ℕ → Type 0
 IsSameLen levels level i n r = (r ≤ n) × AreAll levels i (i + r) level × (r < n → ¬ (get_or levels (i + r) 0 ≡ level))
 
@@ -39,7 +39,7 @@ half : (b : Bool) (n : ℕ) → (cond b 1 0 + 2 * n) / 2 ≡ n
 half true n = omega arith
 half false n = omega arith
 
--- shifting to the right removes lanes at the front
+-- shifting a mask right by k bits removes its first k lanes
 mask-drop : (k : ℕ) (ms : List Bool) → mask_l ms / 2 ^ k ≡ mask_l (drop k ms)
 mask-drop zero ms = div-one (mask_l ms)
 mask-drop (suc k) [] = zero-div (2 ^ suc k)
@@ -47,7 +47,7 @@ mask-drop (suc k) (m ∷ ms) =
     ap (λ n. mask_l (m ∷ ms) / n) (pow-suc 2 k ∙ mul_comm (2 ^ k) 2) ∙ sym (div-div-eq-div-mul (mask_l (m ∷ ms)) 2 (2 ^ k))
     ∙ ap (λ n. n / 2 ^ k) (half m (mask_l ms)) ∙ mask-drop k ms
 
--- dropping some of the last 16 levels leaves the levels after them
+-- dropping the first k of the last 16 levels leaves the other 16 - k levels
 last_chunk : (levels : List ℕ) (first k : ℕ) → first + 16 ≡ length levels → k ≤ 16 → drop k (chunk first 16 levels) ≡ chunk (first + k) (16 - k) levels
 last_chunk levels first k last few =
     ap (drop k) (take_all 16 (drop first levels) (omega (arith, length-drop first levels))) ∙ drop-drop k first levels
@@ -65,7 +65,7 @@ last_len_is levels level first start n r last from rest found =
     same_len_from levels level start n r (omega arith)
     (found ∙ ap (λ m. first_set m n) bits ∙ first_set_mask_l p (chunk start n levels) n (length-chunk start n levels (omega arith)) (omega arith))
 
--- the run continues over the next `len` levels if they are all at its level
+-- the run continues over the next `len` levels if all of them equal the run's level
 pub AlongRun-all : (levels : List ℕ) (start level «end» len : ℕ) → AlongRun levels start level «end» → «end» + len ≤ length levels
     → AreAll levels «end» («end» + len) level → AlongRun levels start level («end» + len)
 AlongRun-all levels start level «end» len w within same = AlongRun-group levels start level «end» len w within (λ j below. sym (same («end» + j) (omega arith) (omega (arith, below))))

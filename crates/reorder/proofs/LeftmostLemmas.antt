@@ -56,7 +56,8 @@ module _ (levels : List ℕ) where
 
   -- ---- the leftmost character from `start` on
 
-  -- `first` is the leftmost of the characters from `start` up to `at`, and `low` the lowest level from it on
+  -- `first` is the leftmost of the characters from `start` up to `at`, and `low` is the lowest level from
+  -- `first` on
   pub record LeftmostOn (level start first low at : ℕ) : Type 0 where
     pub from : start ≤ first
     pub to : first < at
@@ -276,8 +277,8 @@ module _ (levels : List ℕ) where
     inside : end ≤ length levels
     inside = w.within
 
-    -- from characters at the level or higher that adjoin those passed, the lowest level up to `place` is the level
-    -- itself
+    -- if the characters from `place` to k are at the level or higher, and k is after those passed, the lowest
+    -- of their levels is the level itself
     lowest_on : (k : ℕ) → end ≤ k → k < length levels → AreAtLeast levels level place k → IsLowest levels place k level
     lowest_on k past within least =
         let l : HasLowest levels place k = lowest_of levels place k (omega (arith, to, past)) in
@@ -304,7 +305,8 @@ module _ (levels : List ℕ) where
               subst (λ u. IsLowest levels k place u) same l.lowest
         ]
 
-    -- the lowest level up to a character that is not passed is at most `level`, and less if it has the other parity
+    -- if the lowest level from `place` to a character not passed differs from `level` in parity, it is below
+    -- `level`
     below_on : (t : Bool) (k v : ℕ) → end ≤ k → k < length levels → IsLowest levels place k v → is_odd level ≡ not t → is_odd v ≡ t → v < level
     below_on t k v past within l parity other =
         elim (cases_lt v level) [
@@ -323,7 +325,7 @@ module _ (levels : List ℕ) where
               absurd (differ_in t v level other parity same)
         ]
 
-    -- a character to the right is not among those passed
+    -- a character to the right of `place` is not among those passed
     not_passed : (k : ℕ) → IsLeft levels place k → (k < start) ⊎ (end ≤ k)
     not_passed k right =
         elim (cases_lt k start) [

@@ -9,7 +9,7 @@ use Rattle.std.proofs.lemmas.List.Sums.{fold_more}
 use Rattle.ucd.specs.Least.{least}
 use Rattle.reorder.specs.Order.{has_odd, highest, is_odd, lowest_odd}
 
--- `least` finds k if k passes and no smaller number does
+-- `least` returns k if k passes the test and no smaller number does
 least_found : (p : ℕ → Bool) (low count k : ℕ) → low ≤ k → k < low + count → p k ≡ true → ((m : ℕ) → m < k → p m ≡ false) → least p low count ≡ Some k
 least_found p low zero k from to here before = absurd (omega arith)
 least_found p low (suc count) k from to here before =

@@ -43,8 +43,8 @@ module _ (levels : List ℕ) where
             record { all = all; at = m.at; from = omega (arith, inside); to = m.to; is = m.is ∙ omega arith }
       ]
 
-  -- if the lowest level of a range does not occur in its back, it is the lowest level of its front; the same
-  -- holds with front and back exchanged
+  -- if the lowest level of a range does not occur in a suffix, it is the lowest level of the prefix up to
+  -- that suffix; the same holds with prefix and suffix exchanged
   pub in_front : (a b c u v : ℕ) → a ≤ b → IsLowest levels a c u → IsLowest levels b c v → u < v → IsLowest levels a b u
   in_front a b c u v from l m less =
       let last : l.at ≤ c = l.to in
@@ -67,7 +67,7 @@ module _ (levels : List ℕ) where
       let a_within : a ≤ b = (let one : a ≤ m.at = m.from in let other : m.at ≤ b = m.to in omega (arith, one, other)) in
       record { all = λ k after before. l.all k (omega (arith, a_within, after)) before; at = l.at; from = omega (arith, at); to = l.to; is = l.is }
 
-  -- the lowest level of a range is at most that of its back or its front
+  -- the lowest level of a range is at most the lowest level of any prefix or suffix of the range
   pub back_most : (a b c u v : ℕ) → a ≤ b → IsLowest levels a c u → IsLowest levels b c v → u ≤ v
   back_most a b c u v from l m =
       let at : b ≤ m.at = m.from in
@@ -176,7 +176,7 @@ module _ (levels : List ℕ) where
         odd = min_is true other.low one.low other.odd one.odd;
       })
 
-  -- x is to the left of z if x is before y and to its left, and z is before y but to its right
+  -- x is to the left of z if x is before y and to the left of y, and z is before y but to the right of y
   kept_turned : (x y z : ℕ) → IsKept levels is_odd x y → IsTurned levels is_odd y z → IsLeft levels x z
   kept_turned x y z one other =
       let h : x < y = one.before in
@@ -202,7 +202,7 @@ module _ (levels : List ℕ) where
             })
       ]
 
-  -- x is to the left of z if x is after y but to its left, and z is after y and to its right
+  -- x is to the left of z if x is after y but to the left of y, and z is after y and to the right of y
   turned_kept : (x y z : ℕ) → IsTurned levels is_odd x y → IsKept levels is_odd y z → IsLeft levels x z
   turned_kept x y z one other =
       let h : y < x = one.after in

@@ -22,7 +22,7 @@ after ys xs x y a = record {
 
 -- ---- reversing the intervals of one level
 
--- adjacent items of the current interval stay adjacent when it is reversed
+-- adjacent items of the current interval stay adjacent when the interval is reversed
 inside : (test : ℕ → Bool) (ys run back : List ℕ) (x y : ℕ) → Adjacent y x (reverse_runs test (ys ++ y ∷ x ∷ run) back)
 inside test ys run [] x y = record { front = ys; back = run; is = refl }
 inside test ys run (b ∷ back) x y =
@@ -78,7 +78,7 @@ pass_keeps test xs x y a px py =
 
 -- ---- reversing the intervals of all levels
 
--- x and y are adjacent, in this order or reversed
+-- x and y are adjacent, in reverse order if the flag is true
 abbrev Lies : Bool → ℕ → ℕ → List ℕ → Type 0
 Lies true x y xs = Adjacent y x xs
 Lies false x y xs = Adjacent x y xs
@@ -147,7 +147,7 @@ module _ (levels : List ℕ) (i : ℕ) (same : get_or levels (suc i) 0 ≡ get_o
 
 -- ---- the lowest odd level
 
--- what a result of `least` says about the numbers of the range
+-- what the result of `least` implies for the numbers of the range
 abbrev Says : (ℕ → Bool) → ℕ → ℕ → Option ℕ → Type 0
 Says p low count None = (m : ℕ) → low ≤ m → m < low + count → p m ≡ false
 Says p low count (Some k) = (p k ≡ true) × ((m : ℕ) → low ≤ m → m < k → p m ≡ false)

@@ -52,7 +52,7 @@ pub record Reversed (test : ℕ → Bool) (old current : List ℕ) (start : ℕ)
   pub rest : drop start current ≡ drop start old
   pub done : take start current ++ reverse_runs test [] (drop start old) ≡ reverse_runs test [] old
 
--- the scan reverses the next interval, which may be empty, and moves on past it and the item after it
+-- the scan reverses the next interval, which may be empty, and moves on past the interval and the next item
 pub Reversed-next : (test : ℕ → Bool) (old current ys : List ℕ) (start n k : ℕ) → Reversed test old current start → start < length current
     → n ≡ prefix_len test (drop start current) → k ≡ n → ys ≡ reverse (take k (drop start current))
     → Reversed test old (put_mid start k current ys) (start + (n + 1))
@@ -188,7 +188,7 @@ vtol_permutes true classes levels =
     IsPermutation-trans (places levels) (order_of levels) (reverse_with_next (has_base classes levels) [] (order_of levels)) (order_of_permutes levels)
     (with_next_permutes (has_base classes levels) [] (order_of levels))
 
--- a permutation of the numbers below n has only numbers below n
+-- a permutation of the numbers below n contains only numbers below n
 pub permuted_within : (n : ℕ) (xs : List ℕ) → IsPermutation (range_with_len 0 n) xs → (k : ℕ) → k < length xs → get_or xs k 0 < n
 permuted_within n xs p k within =
     All-permutation (λ x. x < n) (range_with_len 0 n) xs p

@@ -103,7 +103,7 @@ plain_within n k below =
     let lt : k < n = omega (arith, below, length-range_with_len 0 n) in
     omega (arith, lt, get_or-range_with_len 0 n k 0 lt)
 
--- the class in a character's properties is the one in the tables
+-- the class in a character's properties is the character's class in the tables
 pub classes_are : (t : Tables) (line : List ℕ) → map class_in (map (properties_of t) line) ≡ map (class_of t) line
 classes_are t [] = refl
 classes_are t (c ∷ line) = ap (λ cs. class_of t c ∷ cs) (classes_are t line)

@@ -312,7 +312,7 @@ module _ (levels : List ℕ) where
   by_places None = refl
   by_places (Some low) = refl
 
-  -- the order of the runs, with the positions of each, is the visual order of the characters
+  -- replacing each of the reordered runs with its positions yields the visual order of the characters
   pub places_in_order : turned levels (places levels) ≡ order_of levels
   unfolding turned order_of
   places_in_order = by_places (lowest_odd levels)
@@ -545,7 +545,7 @@ AlongRun-next levels start level «end» w below is = record {
   so_far = omega (arith, w.so_far, w.above, same_more levels level «end» below is);
 }
 
--- the next m characters have the same level
+-- the run continues over the next m characters if all of them have the run's level
 pub AlongRun-group : (levels : List ℕ) (start level «end» m : ℕ) → AlongRun levels start level «end» → «end» + m ≤ length levels
     → ((j : ℕ) → j < m → level ≡ get_or levels («end» + j) 0) → AlongRun levels start level («end» + m)
 AlongRun-group levels start level «end» zero w within same =
@@ -707,7 +707,7 @@ RunsWritten-end t levels line runs chars k at w past =
 
 -- ---- the highest level and the lowest odd level, found run by run
 
--- all positions of a run have its level
+-- all characters of a run have the run's level
 pub same_at : (levels : List ℕ) (level s count j : ℕ) → j < same_len levels level s count → get_or levels (s + j) 0 ≡ level
 same_at levels level s zero j inside = absurd (omega arith)
 same_at levels level s (suc count) j inside =

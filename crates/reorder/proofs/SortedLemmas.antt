@@ -74,7 +74,7 @@ module _ (R : ℕ → ℕ → Type 0) where
             subst (λ (ys : List ℕ). Sorted R ys) (sym (cond-false (test x) (x ∷ filter test xs) (filter test xs) off)) (Sorted-filter test xs sorted.1)
       ]
 
-  -- if reversing two items with P turns their order around, reversing a sorted list of such items sorts it
+  -- if R x y implies S y x for items with P, reversing a list of such items that is sorted by R sorts it by S
   pub Sorted-reverse : (S : ℕ → ℕ → Type 0) (P : ℕ → Type 0) → ((x y : ℕ) → P x → P y → R x y → S y x) → (xs : List ℕ) → EachOf P xs → Sorted R xs
       → Sorted S (reverse xs)
   Sorted-reverse S P follows [] each sorted = tt
@@ -112,7 +112,7 @@ seam_once test run (x ∷ xs) ys m off =
           ∙ ap (λ (front : List ℕ). front ++ rest) (sym (cond-false (test x) (reverse_runs test (x ∷ run) xs) (run ++ x ∷ reverse_runs test [] xs) none))
     ]
 
--- the first number of a range that fails
+-- `a + d` is the first position of a range at which the level is below k
 record Fails (k a n : ℕ) (level_at : ℕ → ℕ) : Type 0 where
   d : ℕ
   within : d < n
@@ -153,7 +153,7 @@ module _ (levels : List ℕ) where
         | inr w ↦ let within : w.d < n = w.within in inr (record { d = w.d; within = omega (arith, within); high = w.high; low = w.low })
       ]
 
-  -- the positions of a range stay in it
+  -- reversing intervals of a range of positions yields only positions of this range
   in_range : (k c a n : ℕ) → EachOf (λ x. (a ≤ x) × (x < a + n)) (reversed_from levels k c (range_with_len a n))
   in_range k c a n =
       let P : ℕ → Type 0 = λ x. (a ≤ x) × (x < a + n) in
@@ -213,7 +213,7 @@ module _ (levels : List ℕ) where
         passing [] each = tt
         passing (x ∷ xs) each = (le-leb k (level_at x) each.0, passing xs each.1)
 
-    -- a character below the level is to the right of what is before it, and to the left of what is after it
+    -- a character below level k is to the right of all characters before it, and to the left of all after it
     across : (a d x y : ℕ) → level_at (a + d) < k → x ≤ a + d → a + d ≤ y → x < y → IsLeftBy levels (turns k) x y
     across a d x y low from to less =
         let w : HasLowest levels x y = lowest_of levels x y (omega arith) in

@@ -14,7 +14,7 @@ use Rattle.reorder.proofs.OrderLemmas.{order_of_permutes}
 use Rattle.reorder.proofs.RunLemmas.{same_at}
 use Rattle.reorder.proofs.SortedLemmas.{order_sorted, EachOf, EachOf-from_All, EachOf-map, Sorted, Sorted-filter}
 
--- ---- the items of a sorted list from one of them on
+-- ---- the suffix of a sorted list that begins with a given item
 
 abbrev pub Has : ℕ → List ℕ → Type 0
 Has x [] = ⊥
@@ -35,7 +35,7 @@ module _ (levels : List ℕ) where
   abbrev level_at : ℕ → ℕ
   level_at k = get_or levels k 0
 
-  -- all items are to the right of the first one
+  -- if all other items are to the right of `first`, the items from `first` on are the whole list
   all_from : (first : ℕ) (ys : List ℕ) → Sorted (IsLeft levels) ys → Has first ys → EachOf (λ y. (y ≡ first) ⊎ IsLeft levels first y) ys
       → items_from first ys ≡ ys
   all_from first [] sorted has each = refl
@@ -49,7 +49,7 @@ module _ (levels : List ℕ) where
             ]
       ]
 
-  -- the items from x on are x and the items from the one directly to its right
+  -- if `next` is directly to the right of x, the items from x on are x, followed by the items from `next` on
   next_from : (x next : ℕ) (ys : List ℕ) → Sorted (IsLeft levels) ys → Has x ys → Has next ys → IsLeft levels x next
       → EachOf (λ y. IsLeft levels x y → (y ≡ next) ⊎ IsLeft levels next y) ys → items_from x ys ≡ x ∷ items_from next ys
   next_from x next [] sorted has there right each = absurd has
@@ -74,7 +74,7 @@ module _ (levels : List ℕ) where
       ∙ next_from x next ys sorted.1 has later right each.1
       ∙ ap (λ (zs : List ℕ). x ∷ zs) (sym (later_from next y ys apart))
 
-  -- there are no items to the right of the item that is to the right of all others
+  -- if x is to the right of all other items, the items from x on are x alone
   last_from : (x : ℕ) (ys : List ℕ) → Sorted (IsLeft levels) ys → Has x ys → EachOf (λ y. y ≢ x → IsLeft levels y x) ys → items_from x ys ≡ x ∷ []
   last_from x [] sorted has each = absurd has
   last_from x (y ∷ []) sorted (inl same) each = subst (λ k. items_from x (k ∷ []) ≡ x ∷ []) (sym same) (first_from x [])
@@ -193,7 +193,7 @@ module _ (levels : List ℕ) where
       let at : s + 1 + same_len levels (level_at s) (s + 1) (length levels - (s + 1)) ≡ end_of s = omega arith in
       λ e. same_stops (level_at s) (s + 1) (length levels - (s + 1)) (omega arith) (ap level_at at ∙ e)
 
-  -- the first character of a run is not at the level of the one before it
+  -- the first character of a run is not at the level of the character before it
   pub begins_apart : (t k : ℕ) → begins_run levels t ≡ true → suc k ≡ t → level_at t ≡ level_at k → ⊥
   begins_apart zero k begins e same = absurd (omega arith)
   begins_apart (suc t) k begins e same =
@@ -253,7 +253,7 @@ module _ (levels : List ℕ) where
         even = even.0;
       })
 
-  -- a character to the right of a run's last one is outside the run
+  -- a character to the right of a run's rightmost character is outside the run
   right_out : (s last q : ℕ) → IsLast s last → IsLeft levels last q → (q < s) ⊎ (end_of s - 1 < q)
   right_out s last q is right =
       elim (cases_lt q s) [

@@ -111,7 +111,7 @@ module _ (classes : List BidiClass) (levels : List ℕ) (base n : ℕ) (is : IsG
   start : ℕ
   start = (are.covers (base + n) in_line).0
 
-  -- after the last mark of a group, its other marks follow in reverse order, and then its base
+  -- the last mark of a group is followed by the other marks in reverse order, and then by the base
   follows : (k : ℕ) → k ≤ n → (start + k < length levels) × (get_or (order_of levels) (start + k) 0 ≡ base + (n - k))
   unfolding start
   follows zero h =
@@ -220,7 +220,7 @@ first_stays test [] fails = refl
 first_stays test (x ∷ xs) fails =
     ap (λ (zs : List ℕ). get_or zs 0 0) (cond-false (test x) (reverse_with_next test (x ∷ []) xs) (x ∷ reverse_with_next test [] xs) fails)
 
--- the character to the left of one that is in no group is not a mark with a base
+-- if a character is in no group, the character to its left is not a mark with a base
 before_alone : (classes : List BidiClass) (levels : List ℕ) (k z : ℕ) → suc k < length levels → IsAlone classes levels (get_or (order_of levels) (suc k) 0)
     → get_or (order_of levels) k 0 ≡ z → has_base classes levels z ≡ false
 before_alone classes levels k zero within alone here = refl

@@ -276,7 +276,7 @@ module _ (levels : List ℕ) where
 
 -- ---- the scan that counts the runs
 
--- the runs before the index `start`, where a run begins or the line ends, are counted
+-- `count` is the number of runs before `start`, and at `start` a run begins or the line ends
 pub record RunsCounted (levels : List ℕ) (count start : ℕ) : Type 0 where
   pub counted : length (filter (begins_run levels) (range_with_len 0 start)) ≡ count
   pub begins : start < length levels → begins_run levels start ≡ true

@@ -18,7 +18,7 @@ right_to_left : runs_of (2 ∷ 2 ∷ 2 ∷ 1 ∷ 1 ∷ 1 ∷ 1 ∷ 1 ∷ 2 ∷ 2
 unfolding runs_of order_of
 right_to_left = refl
 
--- a number in Hebrew text, which is in Latin text
+-- a number in Hebrew text that is embedded in Latin text
 number : runs_of (0 ∷ 1 ∷ 1 ∷ 2 ∷ 2 ∷ 1 ∷ 0 ∷ []) ≡ run 0 1 0 ∷ run 5 1 1 ∷ run 3 2 2 ∷ run 1 2 1 ∷ run 6 1 0 ∷ []
 unfolding runs_of order_of
 number = refl

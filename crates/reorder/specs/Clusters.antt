@@ -6,7 +6,7 @@ use Rattle.ucd.specs.declared.bidi_class.BidiClass.{BidiClass}
 use Rattle.ucd.specs.declared.bidi_class.BidiClass.TheVariants.{NSM, ON}
 use Rattle.reorder.specs.Order.{is_odd}
 
--- whether a cluster ends after each character of a line, and the levels of its shown part
+-- for each character of a line, whether a cluster ends after it; and the levels of the line's shown part
 module _ (ends : List Bool) (levels : List ℕ) where
   -- whether a character and the character before it are in the same cluster and at the same level
   abbrev pub is_joined : ℕ → Bool
@@ -27,6 +27,6 @@ module _ (ends : List Bool) (levels : List ℕ) where
     pub joined : (k : ℕ) → 0 < k → k ≤ n → is_joined (first + k) ≡ true
     pub whole : is_joined (first + n + 1) ≡ false
 
-  -- a character that has no neighbour of its cluster at its level, or that is at an even level
+  -- a character at an even level, or without an adjacent character of the same cluster at the same level
   abbrev pub IsSingle : ℕ → Type 0
   IsSingle place = (is_odd (slice_index levels place) ≡ false) ⊎ ((is_joined place ≡ false) × (is_joined (suc place) ≡ false))

@@ -1,4 +1,4 @@
--- Levels that are compared together, as bits of a number.
+-- The results of comparing several levels at once, as bits of a number.
 use Rattle.std.specs.Prelude.{◌≡◌, ℕ, ◌<◌, ◌≤◌, ◌==◌, not, if◌then◌else◌, List, map, take, drop, slice_index}
 use Rattle.std.specs.Int.{w64, trailing_zeros}
 use Rattle.std.specs.Simd.Lanes.{mask_l}

@@ -17,7 +17,7 @@ module _ (levels : List ℕ) where
   abbrev pub run_at : ℕ → List ℕ
   run_at s = range_with_len s (level_run_len s)
 
-  -- the same positions in visual order
+  -- the logical positions of the run that starts at s, in visual order
   abbrev pub run_shown : ℕ → List ℕ
   run_shown s = if is_odd (slice_index levels s) then reverse (run_at s) else run_at s
 

@@ -67,7 +67,8 @@ module _ (levels : List ℕ) where
     pub leftmost : (k : ℕ) → k < end → AreAtLeast level k (end - 1) → k ≢ first → IsLeft first k
 
   -- The characters from `start` up to `end`, including `place`, are at the given level or higher, and none of
-  -- the others is to the right of `place`. They include the characters above the level that adjoin `place`.
+  -- the others is to the right of `place`. This range includes all characters above the level that adjoin
+  -- `place`.
   pub record IsPassed (place level start end : ℕ) : Type 0 where
     pub from : start ≤ place
     pub to : place < end

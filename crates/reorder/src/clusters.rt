@@ -58,8 +58,8 @@ pub fn clusters_stand_together()
         → StandsTogether (cluster_classes ends levels) levels first n }
 {}
 
-/// States, as a theorem, that `ClusterClasses` move only characters at odd levels that have another character
-/// of their cluster next to them at the same level. Costs nothing at run time.
+/// States, as a theorem, that `ClusterClasses` move a character only if its level is odd and an adjacent
+/// character of the same cluster has the same level. Costs nothing at run time.
 pub fn single_characters_stay()
     ensures { (ends : List Bool) (levels : List ℕ) (k : ℕ) → k < length levels
         → IsSingle ends levels (slice_index (vtol_of false (cluster_classes ends levels) levels) k)

@@ -139,7 +139,7 @@ fn run_len(levels: &[u8], level: u8) -> usize
     levels.len()
 }
 
-/// Returns the highest level, or 0 if the list is empty, and the lowest odd level, if there is one.
+/// Returns the highest level (0 if the list is empty) and the lowest odd level (if there is one).
 pub fn highest_and_lowest_odd(levels: &[u8]) -> (u8, Option<u8>)
     ensures highest { result.0 ≡ highest levels.now }
     ensures lowest { result.1 ≡ lowest_odd levels.now }

@@ -9,8 +9,8 @@ ghost use Rattle.reorder.specs.Mirroring.{mirrored, visual_chars};
 use crate::order::level_run_len;
 use ucd::{Properties, Tables};
 
-/// Writes the characters of a line at the logical positions `vtol`, in that order. A character at an odd
-/// level is replaced by its mirror, if it has one.
+/// Writes the characters of a line in visual order. `vtol` holds the logical position of each character. A
+/// character at an odd level is replaced by its mirror, if it has one.
 pub fn visual_chars(
     tables: &Tables,
     line: &[char],
@@ -89,7 +89,7 @@ fn visual_run(
     }
 }
 
-// Returns a character as it is shown at a level.
+// Returns the mirror of a character at an odd level, if it has one, and otherwise the character itself.
 fn mirrored(tables: &Tables, level: u8, c: char, properties: Properties) -> char
     requires { properties ≡ properties_of tables.now c }
     ensures { result ≡ mirrored tables.now level c }

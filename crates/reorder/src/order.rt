@@ -130,7 +130,7 @@ pub fn order_runs(levels: &[u8], items: &mut [u32]) -> Option<usize>
 }
 
 // Writes the start of each level run of a line to the front of a list. Returns the number of runs, the
-// highest level, or 0 if the line is empty, and the lowest odd level, if there is one.
+// highest level (0 if the line is empty) and the lowest odd level (if there is one).
 fn find_runs(levels: &[u8], items: &mut [u32]) -> (usize, u8, Option<u8>)
     requires len { length items.old ≡ length levels.now }
     requires limit { length levels.now ≤ u32.MAX }

@@ -159,8 +159,8 @@ fn extent_on(levels: &[u8], level: u8, start: usize) -> usize
     end
 }
 
-// Returns the leftmost of the characters from `start` on, up to the first one below `level`, which is even.
-// The first character at `level` is to the left of the characters after it.
+// Returns the leftmost of the characters from `start` up to the first one below `level`, where `level` is
+// even. The first character at `level` is to the left of the characters after it.
 fn leftmost_on(levels: &[u8], level: u8, start: usize) -> usize
     requires start { start < length levels.now }
     requires level { is_odd level ≡ false }
@@ -181,8 +181,8 @@ fn leftmost_on(levels: &[u8], level: u8, start: usize) -> usize
     first
 }
 
-// Returns the leftmost of the characters before `end`, back to the last one below `level`, which is odd. The
-// last character at `level` is to the left of the characters before it.
+// Returns the leftmost of the characters before `end`, back to the last one below `level`, where `level` is
+// odd. The last character at `level` is to the left of the characters before it.
 fn leftmost_back(levels: &[u8], level: u8, end: usize) -> usize
     requires end { (0 < end) × (end ≤ length levels.now) }
     requires level { is_odd level ≡ true }

@@ -80,7 +80,7 @@ module _ (text : List ℕ) (n d : ℕ) (within : n < length text) where
 pub all_right : (text : List ℕ) (n : ℕ) → length text ≤ n → is_some (unescaped (drop n text)) ≡ true
 all_right text n past = sym (is_some_map (λ cs. [] ++ cs) (unescaped (drop n text))) ∙ ap is_some (all_written text [] n past)
 
--- before the next decoded character is appended, fewer characters are kept than the text represents
+-- if one more character can be decoded, fewer characters have been kept than the text represents
 pub lacks_next : (text front : List ℕ) (c : ℕ) (rest : Option (List ℕ)) → unescaped text ≡ option_map (λ cs. (front ++ c ∷ []) ++ cs) rest → is_some (unescaped text) ≡ true
     → LacksText text front
 lacks_next text front c None is right = absurd (true≢false (sym right ∙ ap is_some is))

@@ -8,7 +8,7 @@ more_digits radix n d i below digit =
     let whole : radix * suc n ≤ radix * radix ^ i = mul-le-mul_left radix below in
     omega (arith, whole, pow-succ' radix i)
 
--- bounds on the powers and products that occur while a number of a radix up to 16 is computed
+-- bounds on the powers and products that occur while a number in a radix up to 16 is computed
 pub digits_fit : (radix i most : ℕ) → 2 ≤ radix → radix ≤ 16 → i ≤ most → radix ^ i ≤ 16 ^ most
 digits_fit radix i most low high few =
     let radix_up : radix ^ i ≤ 16 ^ i = pow-le-pow_left high i in

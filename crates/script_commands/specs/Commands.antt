@@ -15,7 +15,7 @@ pub data Command : Type 0 where
   Show : Command
   Ask : (query : Query) → Command
 
--- the number that 1 to 9 decimal digits denote
+-- the number that digits denote in a radix; `number_in` accepts 1 to 9 decimal digits
 abbrev pub number_by : ℕ → List ℕ → ℕ
 number_by radix digits = fold (λ n d. radix * n + digit_value d) 0 digits
 
@@ -25,7 +25,7 @@ are_digits radix text = list_all (λ c. is_digit c radix) text
 abbrev pub number_in : List ℕ → Option ℕ
 number_in text = if nat_lt 0 (length text) && (nat_le (length text) 9 && are_digits 10 text) then Some (number_by 10 text) else None
 
--- An escape is a backslash and `n`, `r`, another backslash, or `u{H}`. H is a Unicode scalar value in 1 to 6
+-- An escape is a backslash followed by `n`, `r`, a backslash or `u{H}`. H is a Unicode scalar value in 1 to 6
 -- hexadecimal digits. These definitions compute the character and the length of the whole escape from the text after
 -- the backslash.
 abbrev pub is_character : ℕ → Bool
@@ -50,7 +50,7 @@ escaped text =
 abbrev pub written : ℕ → List ℕ → Option (ℕ × ℕ)
 written c after = if c == 92 then escaped after else Some (c, 1)
 
--- the characters that a text represents after its first `skip` characters, which belong to an escape
+-- the characters that a text represents after its first `skip` characters, which belong to a decoded escape
 abbrev pub onto : Option (ℕ × ℕ) → (ℕ → Option (List ℕ)) → Option (List ℕ)
 onto None others = None
 onto (Some (c, len)) others = option_map (λ cs. c ∷ cs) (others len)

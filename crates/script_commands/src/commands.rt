@@ -41,11 +41,11 @@ pub enum Query {
     FromByte(usize),
     /// The position of the character that contains a UTF-16 code unit.
     FromUtf16(usize),
-    /// The screen column at which to draw the caret at an edge. The fields are the position, and whether the
-    /// edge is after it.
+    /// The screen column at which to draw the caret at an edge. The fields are a character's position, and
+    /// whether the edge is after that character.
     Edge(usize, bool),
-    /// The edge that is one step away. The fields are the position, whether the edge is after it, and whether
-    /// the step is to the right.
+    /// The edge one step away from an edge. The fields are a character's position, whether the first edge is
+    /// after that character, and whether the step is to the right.
     Step(usize, bool, bool),
     /// The edge at a place on the screen. The fields are the line and the screen column.
     At(usize, usize),
@@ -242,7 +242,7 @@ fn parse_edge_query(line: &[char]) -> Option<Query>
     Some(Query::Why(number(after(&WHY, line)?)?))
 }
 
-// Parses two numbers with a space between them.
+// Parses two numbers separated by a space.
 fn both(text: &[char]) -> Option<(usize, usize)>
     ensures { result ≡ both_in (parted text.now) }
 {
@@ -250,7 +250,7 @@ fn both(text: &[char]) -> Option<(usize, usize)>
     Some((number(one)?, number(other)?))
 }
 
-// Parses three numbers with a space between them.
+// Parses three numbers separated by single spaces.
 fn three(text: &[char]) -> Option<(usize, (usize, usize))>
     ensures { result ≡ three_in (parted text.now) }
 {

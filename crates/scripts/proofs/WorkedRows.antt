@@ -20,12 +20,12 @@ row-brackets : scripts_of bracket (0x61 ∷ 0x28 ∷ 0x5D0 ∷ 0x29 ∷ 0x20 ∷
 unfolding script script_rows scripts_of value_in
 row-brackets = refl
 
--- an outer bracket closes an inner one
+-- closing an outer bracket also closes the inner brackets
 row-outer : scripts_of bracket (0x61 ∷ 0x5B ∷ 0x5D0 ∷ 0x28 ∷ 0x5D ∷ 0x29 ∷ []) ≡ Latin ∷ Latin ∷ Hebrew ∷ Hebrew ∷ Latin ∷ Latin ∷ []
 unfolding script script_rows scripts_of value_in
 row-outer = refl
 
--- at the start, the script that follows
+-- at the start of the text, characters without a script of their own have the first script that follows
 row-first : scripts_of bracket (0x28 ∷ 0x301 ∷ 0x5D0 ∷ 0x29 ∷ 0x61 ∷ []) ≡ Hebrew ∷ Hebrew ∷ Hebrew ∷ Hebrew ∷ Latin ∷ []
 unfolding script script_rows scripts_of value_in
 row-first = refl

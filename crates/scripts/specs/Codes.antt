@@ -1,4 +1,4 @@
--- The codes of scripts (ISO 15924), which are the short names of the property Script in PropertyValueAliases.txt.
+-- The codes of scripts (ISO 15924), which are the short names of Script values in PropertyValueAliases.txt.
 use Rattle.std.specs.Prelude.{ℕ, ◌+◌, ◌*◌, List, [], ◌∷◌, codes, fold, map, slice_index_or}
 use Rattle.ucd_script.specs.Script.{script_number}
 use Rattle.ucd_script.specs.declared.Script.{Script}

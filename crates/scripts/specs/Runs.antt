@@ -1,4 +1,4 @@
--- The runs of one script, as long as possible.
+-- The maximal runs of characters with the same script.
 use Rattle.std.specs.Prelude.{ℕ, zero, suc, Bool, true, not, List, length, drop, filter, map, slice_index_or}
 use Rattle.std.specs.List.{prefix_len, range_with_len}
 use Rattle.ucd_script.specs.Script.{script_eq}

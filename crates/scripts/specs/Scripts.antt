@@ -1,7 +1,7 @@
--- The script of each character of a text (UAX #24, sections 2.2, 5.1 and 5.2). A character whose property Script is
--- neither Common nor Inherited has that script. A closing bracket has the script of its opening bracket. Any other
--- character has the script of the character before it. At the start of the text, such characters have the first script
--- that follows, or Common if none does.
+-- The script of each character of a text (UAX #24, sections 2.2, 5.1 and 5.2). A character whose property
+-- Script is neither Common nor Inherited has this script. A closing bracket has the script of its opening
+-- bracket. Any other character has the script of the character before it. At the start of the text, such
+-- characters have the first script that follows, or Common if none does.
 use Rattle.std.specs.Prelude.{ℕ, ◌+◌, ◌==◌, Bool, ◌||◌, not, List, [], ◌∷◌, drop, find, map, option_and_then, option_map, position, slice_get, take, unwrap_or, Option, Some, None, if◌then◌else◌}
 use Rattle.ucd.specs.declared.bracket.Bracket.{Bracket}
 use Rattle.ucd_script.specs.Script.{script, script_eq}
@@ -33,7 +33,7 @@ abbrev pub outside : Option ℕ → List Opening → List Opening
 outside None openings = openings
 outside (Some k) openings = drop (k + 1) openings
 
--- The brackets that are open after a character, which has this script. Only the innermost 63 are kept.
+-- The brackets that are open after a character with the given script. Only the innermost 63 are kept.
 abbrev pub open_after : Option Bracket → ℕ → Script → List Opening → List Opening
 open_after None c script openings = openings
 open_after (Some bracket) c script openings =
@@ -41,7 +41,8 @@ open_after (Some bracket) c script openings =
 
 -- ---- scripts
 
--- the script that a character has from another one: the opening bracket that it closes, or else the character before it
+-- the script that a character takes: from the opening bracket that it closes, or else from the character
+-- before it
 abbrev pub taken_script : Option Bracket → ℕ → Script → List Opening → Script
 taken_script bracket c before openings =
     unwrap_or (option_and_then (λ k. option_map (λ opening. opening.script) (slice_get openings k)) (closed_by bracket c openings)) before

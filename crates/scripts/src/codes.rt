@@ -1,5 +1,5 @@
-//! The codes of scripts (ISO 15924), which are the short names of the property Script. Shapers accept them as
-//! numbers.
+//! The codes of scripts (ISO 15924), which are the short names of the values of the property Script. Shapers
+//! accept them as numbers.
 ghost use Rattle.std.specs.Prelude.{◌≡◌};
 ghost use Rattle.scripts.specs.Codes.{iso_code};
 

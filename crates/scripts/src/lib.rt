@@ -1,5 +1,5 @@
 //! The scripts of a text (UAX #24): the script of each character, and the runs of one script. Common and
-//! Inherited characters have the script of other characters.
+//! Inherited characters take the script of other characters.
 //!
 //! ```rust
 //! let scripts = resolve(alloc, tables, &['a', '(', 'א', ')', '.'])?;
@@ -8,7 +8,7 @@
 //! assert!(rt; iso_code(runs[1].script) == u32::from_be_bytes(*b"Hebr"));
 //! ```
 //!
-//! The property Script comes from the kit's crate `ucd_script`. Brackets are those of the tables.
+//! The property Script comes from the kit's crate `ucd_script`. Brackets come from the tables.
 #![tactic(auto)]
 
 mod codes;

@@ -80,7 +80,7 @@ fn closed_by(
     }
 }
 
-// Returns the script that a character has from other characters, given the script before it.
+// Returns the script that a character takes from other characters, given the script of the previous one.
 fn taken_script(
     bracket: Option<Bracket>,
     openings: &HeapCircularBuffer<Opening>,
@@ -95,7 +95,7 @@ fn taken_script(
     }
 }
 
-// Returns the script of a character, given the script before it.
+// Returns the script of a character, given the script of the character before it.
 fn script_in(
     bracket: Option<Bracket>,
     openings: &HeapCircularBuffer<Opening>,
@@ -112,7 +112,7 @@ fn script_in(
     }
 }
 
-// Updates the list of open brackets after a character with a script.
+// Updates the list of open brackets after a character, given the script of the character.
 fn pass(
     bracket: Option<Bracket>,
     openings: &mut HeapCircularBuffer<Opening>,

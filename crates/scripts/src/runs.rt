@@ -1,4 +1,4 @@
-//! Finds the runs of one script.
+//! Finds the script runs of a text.
 ghost use Rattle.std.specs.Prelude.{◌≡◌, ◌<◌, length, drop, IfOk, OnErr};
 ghost use Rattle.std.specs.List.{prefix_len};
 ghost use Rattle.ucd_script.specs.Script.{script_eq};
@@ -8,7 +8,7 @@ use crate::resolving::is_same;
 use std::alloc::{AllocError, Global};
 use ucd_script::Script;
 
-/// The `len` characters from position `start` on, all of one script.
+/// A script run: the `len` characters from position `start` on, all of one script.
 #[derive(Clone, Copy)]
 pub struct ScriptRun {
     pub start: usize,
@@ -24,7 +24,7 @@ fn begins_run(scripts: &[Script], k: usize) -> bool
     k == 0 || !is_same(scripts[k], scripts[k - 1])
 }
 
-// Returns how many characters from a position on have the script of the first one.
+// Returns how many consecutive characters, from a position on, have the same script.
 fn run_len(scripts: &[Script], start: usize) -> usize
     requires { start < length scripts.now }
     ensures { result ≡ prefix_len (script_eq (script_at scripts.now start)) (drop start scripts.now) }
@@ -48,8 +48,8 @@ fn run_from(scripts: &[Script], start: usize) -> ScriptRun
     }
 }
 
-/// Returns the runs of characters with these scripts, in the order of the text. Each run is as long as
-/// possible. Needs time proportional to the number of characters.
+/// Returns the script runs of a text, in the order of the text, given the script of each character. Each run
+/// is as long as possible. Needs time proportional to the number of characters.
 pub fn script_runs(alloc: Global, scripts: &[Script]) -> Result<Vec<ScriptRun>, AllocError>
     ensures runs { IfOk result (λ runs. runs.items ≡ runs_of scripts.now) }
     ensures memory { OnErr result (0 < length scripts.now) }

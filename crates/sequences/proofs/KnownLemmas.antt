@@ -1,4 +1,4 @@
--- What follows a text does not change a sequence that is known.
+-- If the end of a sequence is known, appending text does not change the sequence.
 use Rattle.std.proofs.Common.{◌≡◌, ℕ, zero, suc, ◌+◌, ◌-◌, ◌<◌, ◌==◌, Bool, true, false, List, [], ◌∷◌, ◌++◌, length, drop, slice_index, nat_lt, Option, Some, None, if◌then◌else◌, refl, sym, ap, inl, inr, ◌∙◌, arith}
 use Rattle.std.specs.Prelude.{◌&&◌, ◌||◌, not, option_map}
 use Rattle.std.specs.List.{prefix_len}
@@ -55,7 +55,7 @@ module _ (more : List ℕ) where
       ap (λ (b : Bool). if x == 0x9C || (is_osc && x == 0x07) then 1 else (if b && slice_index more 0 == 0x5C then 2 else 0)) no
       ∙ sym (ap (λ (b : Bool). if x == 0x9C || (is_osc && x == 0x07) then 1 else (if b && 0 == 0x5C then 2 else 0)) no)
 
-  -- appending more text does not change the end of a string
+  -- if a text begins with a string terminator, appending more text does not change the terminator's length
   terminator_kept : (is_osc : Bool) (text : List ℕ) → (terminator_len is_osc text == 0) ≡ false → terminator_len is_osc (text ++ more) ≡ terminator_len is_osc text
   terminator_kept is_osc [] some = absurd (none (and_right is_osc false refl))
     where

@@ -1,4 +1,4 @@
--- What holds for all texts.
+-- Theorems about all texts.
 use Rattle.std.proofs.Common.{◌≡◌, ℕ, zero, suc, ◌+◌, ◌-◌, ◌*◌, ◌==◌, Bool, true, false, ◌&&◌, ◌||◌, not, List, [], ◌∷◌, ◌++◌, length, map, fold, if◌then◌else◌, refl, sym, ap, ◌∙◌}
 use Rattle.std.specs.Prelude.{Option, unwrap_or}
 use Rattle.std.specs.List.{list_all}
@@ -12,7 +12,8 @@ use Rattle.sequences.specs.declared.look.Look.{Look}
 use Rattle.sequences.specs.declared.overstrikes.Struck.{Struck}
 use Rattle.sequences.proofs.PlainLemmas.{inline_remains, no_backspaces_in, no_sequence, no_strikes, plain_look}
 
--- a strike shows one of the two characters
+-- a property of both the character shown so far and the struck character also holds for the character shown
+-- after the strike
 strike-shown : (P : ℕ → Type 0) (after_underline : Bool) (s : Struck) (c : ℕ) → P s.shown → P c → P (strike after_underline s c).shown
 strike-shown P after_underline s c old new =
     let Q : Struck → Type 0 = λ r. P r.shown in
@@ -20,7 +21,7 @@ strike-shown P after_underline s c old new =
     (λ _. cond_both (c == 0x5F && not (s.bold || s.underlined)) _ _ Q (λ _. old) (λ _. cond_both (c == 0x5F) _ _ Q (λ _. old) (λ _. old)))
     (λ _. cond_both (c == 0x5F) _ _ Q (λ _. old) (λ _. cond_both (s.shown == 0x5F) _ _ Q (λ _. new) (λ _. new)))
 
--- the character that is shown at a place is not dropped, if the first one is not
+-- if the first character at a position is not dropped, the character that is shown there is not dropped
 struck-remains : (after_underline : Bool) (s : Struck) (text : List ℕ) → is_dropped s.shown ≡ false
     → is_dropped (fold (strike after_underline) s (after_backspaces text)).shown ≡ false
 struck-remains after_underline s [] e = e
@@ -55,7 +56,7 @@ all_remain zero pen (c ∷ text) =
     ∙ list_all-append remains (characters_of (first_shown pen c text)) (characters_of rest)
     ∙ and_from _ _ (first_shown-remains pen c text) (all_remain (more_len c text) (after_first_part pen c text) text)
 
--- the first part of a text that has nothing to drop is its first character
+-- the first part of a text is one character, which is shown unchanged and does not change the style
 abbrev pub IsPlainPart : Pen → ℕ → List ℕ → Type 0
 IsPlainPart pen c text =
     (first_shown pen c text ≡ (c, pen.style) ∷ []) × (more_len c text ≡ 0) × ((after_first_part pen c text).style ≡ pen.style)
@@ -91,7 +92,7 @@ plain_text pen (c ∷ text) e =
     ∙ ap (λ rest. (c, pen.style) ∷ rest) (plain_text next text parts.1)
     ∙ ap (λ (style : Style). (c, pen.style) ∷ map (λ d. (d, style)) text) part.2
 
--- which character is shown does not depend on attributes
+-- the character that is shown after a strike; attributes do not affect this character
 abbrev shown_over : ℕ → ℕ → ℕ
 shown_over old c = if c == old then old else (if c == 0x5F then old else c)
 

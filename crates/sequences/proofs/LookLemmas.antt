@@ -5,7 +5,7 @@ use Rattle.sequences.specs.Parts.{fields_after, first_len, parameters_after}
 use Rattle.sequences.specs.declared.look.Look.{Look}
 use Rattle.sequences.proofs.PartLemmas.{parameters-first}
 
--- skipping a parameter that belongs to the one before it leaves the look unchanged
+-- skipping a parameter that belongs to the one before it does not change the final attributes
 pub skip_parameter : (skip : ℕ) (look : Look) (text rest : List ℕ) → 0 < skip → 0 < length text → rest ≡ drop (first_len 0x3B text) text
     → applied_after (skip - 1) look (parameters_after rest) ≡ applied_after skip look (parameters_after text)
 skip_parameter zero look text rest more some e = absurd (omega arith)

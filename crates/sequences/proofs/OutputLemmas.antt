@@ -1,4 +1,4 @@
--- Parameters with a semicolon before each become the text of SGR.
+-- Parameters, each after a semicolon, become an SGR sequence once `[` replaces the first semicolon.
 use Rattle.std.proofs.Common.{◌≡◌, ℕ, ◌+◌, List, [], ◌∷◌, ◌++◌, length, map, take, drop, refl, sym, ap, ◌∙◌, append_assoc}
 use Rattle.std.specs.List.{join_with_byte}
 use Rattle.std.proofs.lemmas.List.{append-nil, drop-drop, drop_at, take_at}

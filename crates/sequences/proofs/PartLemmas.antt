@@ -1,4 +1,4 @@
--- Taking the first part off a text.
+-- Removing the first part of a text.
 use Rattle.std.proofs.Common.{◌≡◌, ℕ, suc, ◌+◌, ◌<◌, ◌==◌, Bool, not, List, [], ◌∷◌, length, map, take, drop, refl, sym, ap, ◌∙◌, if◌then◌else◌, zero, inl, inr, arith}
 use Rattle.std.specs.List.{count_by, position_or_len, slice_split, onto_first}
 use Rattle.std.proofs.lemmas.Bool.{cases_Bool, cond-true, cond-false, not_from_true, not_from_false, ne_eqb}
@@ -24,7 +24,7 @@ module _ (separator : ℕ) where
             slice_split-cons_no ends x xs other ∙ ap (onto_first x) (split_first xs) ∙ ap (λ n. take n (x ∷ xs) ∷ parts_after separator (drop n (x ∷ xs))) (sym e))
       ]
 
-  -- the parts of a text are its first part and the parts of the rest
+  -- the parts of a non-empty text are its first part, followed by the parts of the rest
   pub parts_after-first : (text : List ℕ) → 0 < length text
       → parts_after separator text ≡ drop 1 (take (first_len separator text) text) ∷ parts_after separator (drop (first_len separator text) text)
   parts_after-first [] some = absurd (omega arith)
@@ -69,7 +69,7 @@ value_at f rest parts k e = value-drop f parts k ∙ ap (λ xs. value (map f xs)
 pub single_at : (rest parts : List (List ℕ)) (k : ℕ) → rest ≡ drop k parts → value (map single (map fields parts)) k ≡ value (map single (map fields rest)) 0
 single_at rest parts k e = value-drop single (map fields parts) k ∙ ap (λ xs. value (map single xs) 0) (drop-map k parts ∙ ap (map fields) (sym e))
 
--- the parameters of a text are its first parameter and those of the rest
+-- the parameters of a non-empty text are its first parameter, followed by the parameters of the rest
 pub parameters-first : (text : List ℕ) → 0 < length text
     → parameters_after text ≡ fields_after (take (first_len 0x3B text) text) ∷ parameters_after (drop (first_len 0x3B text) text)
 parameters-first [] some = absurd (omega arith)

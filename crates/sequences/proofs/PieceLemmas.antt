@@ -1,4 +1,5 @@
--- No part of a text spans a character that neither is dropped nor can be in a string, so what is after it does not matter.
+-- No part of a text spans a character that ends a piece, so text after the character does not affect what is
+-- shown before it.
 use Rattle.std.proofs.Common.{◌≡◌, ℕ, zero, suc, ◌+◌, ◌-◌, ◌*◌, ◌<◌, ◌≤◌, ◌==◌, Bool, true, false, ◌&&◌, ◌||◌, List, [], ◌∷◌, ◌++◌, length, take, drop, slice_index, nat_le, nat_lt, Some, None, if◌then◌else◌, refl, sym, ap, subst, ◌∙◌, append_assoc, inl, inr, arith}
 use Rattle.std.specs.Prelude.{fold, not, MatchOption, Option, option_map, unwrap_or, ⊤}
 use Rattle.std.specs.List.{prefix_len}
@@ -16,11 +17,11 @@ use Rattle.sequences.specs.declared.overstrikes.Struck.{Struck}
 use Rattle.sequences.proofs.PlainLemmas.{no_backspaces, no_sequence, not_among}
 use Rattle.sequences.specs.declared.lengths.TheConstants.{LONGEST_STRING}
 
--- a character between the spaces and the tildes can be in a string
+-- a character from U+0020 to U+007E can be in a string
 inline_ascii : (c : ℕ) → 0x20 ≤ c → c ≤ 0x7E → is_inline c ≡ true
 inline_ascii c low high = grind (arith, nat_tests)
 
--- `c` ends a piece, and `one` and `two` are any texts after it
+-- `c` ends a piece, and `one` and `two` are arbitrary texts after `c`
 module _ (c : ℕ) (kept : is_dropped c ≡ false) (outer : is_inline c ≡ false) where
   no_parameter : is_parameter c ≡ false
   no_parameter = grind (arith, nat_tests)
@@ -68,7 +69,8 @@ module _ (c : ℕ) (kept : is_dropped c ≡ false) (outer : is_inline c ≡ fals
     index_at [] = refl
     index_at (x ∷ text) = index_at text
 
-    -- a character that passes a test that `c` fails is before `c`
+    -- if `c` fails a test and the character at an index up to that of `c` passes, the index is less than that
+    -- of `c`
     passes_before : (p : ℕ → Bool) → p c ≡ false → (text : List ℕ) (n : ℕ) → n ≤ length text → p (slice_index (text ++ c ∷ one) n) ≡ true → n < length text
     passes_before p e text n le passed =
         elim (cases_eq n (length text)) [
@@ -107,7 +109,7 @@ module _ (c : ℕ) (kept : is_dropped c ≡ false) (outer : is_inline c ≡ fals
   ended_same p one two text n m le e =
       ap (λ (d : ℕ). ended p d n) (index_same one two text n le) ∙ ap (λ (k : ℕ). ended p (slice_index (text ++ c ∷ two) k) k) e
 
-  -- whether a length, if there is one, ends at or before `c`
+  -- a length, if there is one, is at most n
   abbrev IsWithin : ℕ → Option ℕ → Type 0
   IsWithin n found = MatchOption found ⊤ (λ len. len ≤ n)
 
@@ -250,7 +252,7 @@ module _ (c : ℕ) (kept : is_dropped c ≡ false) (outer : is_inline c ≡ fals
       cond_both (x == 0x1B) _ _ (IsWithin (suc (length text))) (λ _. suc_within (length text) _ (len_after_escape_within one text))
       (λ _. cond_both (is_c1_introducer x) _ _ (IsWithin (suc (length text))) (λ _. len_after_escape_within one ((x - 0x40) ∷ text)) (λ _. tt))
 
-  -- ---- what sequences do
+  -- ---- the effects of sequences
   take_whole : (one text : List ℕ) (n : ℕ) → n ≤ length text → take n (text ++ c ∷ one) ≡ take n text
   take_whole one text n le = take-append-le n text (c ∷ one) le
 
@@ -375,7 +377,7 @@ module _ (c : ℕ) (kept : is_dropped c ≡ false) (outer : is_inline c ≡ fals
       after : List ℕ → Pen
       after xs = record pen { after_underline = is_underlined_only (struck_look pen.style.look (place_of pen c xs)) }
 
-  -- a text is shown piece by piece
+  -- a text shows what the piece up to `c` shows, and then what the rest shows
   pieces_text : (skip : ℕ) (pen : Pen) (text rest : List ℕ) → skip ≤ length text
       → styled_after skip pen (text ++ c ∷ rest) ≡ styled_after skip pen (text ++ c ∷ []) ++ styled_after 0 (pen_after skip pen (text ++ c ∷ [])) rest
   pieces_text zero pen [] rest le =

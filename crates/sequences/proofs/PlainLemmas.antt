@@ -9,13 +9,13 @@ use Rattle.sequences.specs.Sequences.{sequence_len}
 use Rattle.sequences.specs.Overstrikes.{after_backspaces, strikes, struck_look}
 use Rattle.sequences.specs.declared.look.Look.{Look}
 
--- no control of a kind that is dropped can be in a string or an overstrike
+-- a character that can be in a string or an overstrike is not dropped
 pub inline_remains : (c : ℕ) → is_inline c ≡ true → is_dropped c ≡ false
 inline_remains c e =
     let parts = or_parts (is_control c) (c == 0x2028 || c == 0x2029) (not-true _ e) in
     ap (λ b. b && not (is_kept_control c)) parts.0
 
--- ESC, BS and the C1 controls that introduce sequences are dropped
+-- a character that is not dropped is none of the dropped ones, such as ESC or BS
 pub not_among : (c dropped : ℕ) → is_dropped c ≡ false → is_dropped dropped ≡ true → (c == dropped) ≡ false
 not_among c dropped e d = go (c == dropped) refl
   where
@@ -36,7 +36,8 @@ pub no_sequence : (c : ℕ) (text : List ℕ) → is_dropped c ≡ false → seq
 no_sequence c text e =
     cond-false (c == 0x1B) _ _ (escape_is_dropped c e) ∙ cond-false (is_c1_introducer c) _ _ (introducer_is_dropped c e)
 
--- without a BS after it, nothing is struck over a character
+-- a text that begins with a character that is not dropped, so not with BS, strikes nothing over a character
+-- before it
 pub no_backspaces : (c : ℕ) (text : List ℕ) → is_dropped c ≡ false → after_backspaces (c ∷ text) ≡ []
 no_backspaces c [] e = refl
 no_backspaces c (d ∷ text) e = cond-false (c == 0x08 && is_inline d) _ _ (ap (λ b. b && is_inline d) (backspace_is_dropped c e))
@@ -48,6 +49,6 @@ pub no_backspaces_in : (text : List ℕ) → list_all (λ c. not (is_dropped c))
 no_backspaces_in [] e = refl
 no_backspaces_in (c ∷ text) e = no_backspaces c text (not-true _ (and_parts (not (is_dropped c)) _ e).0)
 
--- without overstrikes, the attributes of a character stay the same
+-- without overstrikes, a character has the attributes that SGR has set
 pub plain_look : (look : Look) (c : ℕ) → struck_look look (record { shown = c; bold = false; underlined = false }) ≡ look
 plain_look look c = ap (λ bold. let l : Look = record look { bold = bold } in l) (or-false look.bold)

@@ -12,12 +12,12 @@ use Rattle.sequences.specs.declared.known.Progress.{Progress}
 use Rattle.sequences.specs.declared.known.Progress.TheVariants.{Start, Escape, Parameters, Intermediates, InString, AfterString, InLong, AfterLong, Known}
 use Rattle.sequences.specs.declared.lengths.TheConstants.{LONGEST_STRING}
 
--- a text can be scanned in pieces
+-- scanning a text and then more text gives the same state as scanning both together
 pub after_all-append : (progress : Progress) (text more : List ℕ) → after_all progress (text ++ more) ≡ after_all (after_all progress text) more
 after_all-append progress [] more = refl
 after_all-append progress (c ∷ text) more = after_all-append (advanced progress c) text more
 
--- once the end of the sequence is known, more characters do not change that
+-- once the end of the sequence is known, the state does not change any more
 pub known_stays : (text : List ℕ) → after_all Known text ≡ Known
 known_stays [] = refl
 known_stays (c ∷ text) = known_stays text
@@ -64,7 +64,7 @@ zero_add n = omega arith
 suc_add : (a b : ℕ) → suc (a + b) ≡ suc a + b
 suc_add a b = omega arith
 
--- a prefix is one longer if its first character passes
+-- if the first character passes, the prefix is one character longer
 one_more_in : (b : Bool) (n : ℕ) → b ≡ true → (if b then 1 + n else 0) ≡ suc n
 one_more_in b n e = cond-true b (1 + n) 0 e ∙ suc_is
   where
@@ -140,7 +140,7 @@ long_tells is_osc (c ∷ text) =
           ∙ ap (λ (b : Bool). ends_piece c || (not ((if closes then 1 else (if b && slice_index text 0 == 0x5C then 2 else 0)) == 0) || knows_long is_osc text)) (sym n)
     ]
 
--- the characters of a string do not end it
+-- a character that a string can contain does not end the string
 module _ (c : ℕ) (inside : is_inline c ≡ true) where
   no_escape : (c == 0x1B) ≡ false
   no_escape = not_among c 0x1B (inline_remains c inside) refl
@@ -173,7 +173,7 @@ closing_tells : (text : List ℕ) → tells AfterString text ≡ nat_lt 0 (lengt
 closing_tells [] = refl
 closing_tells (c ∷ text) = known_tells text ∙ sym (some_less (length text))
 
--- `knows_string` for a string of which n characters came before the text, and m more begin the text
+-- `knows_string` for a string with n characters before a text and m more at the start of the text
 abbrev short_known : ℕ → List ℕ → Bool
 short_known m text = nat_lt (m + (if slice_index text m == 0x1B then 1 else 0)) (length text)
 

@@ -1,4 +1,4 @@
--- The character that is shown at a place, compared with the first one that is struck there.
+-- The character that is shown at a position, compared with the first character there.
 use Rattle.std.proofs.Common.{◌≡◌, ◌⊎◌, ℕ, ◌==◌, Bool, true, false, ◌&&◌, ◌||◌, not, List, [], ◌∷◌, fold, sym, subst, ap, inl, inr, ◌∙◌}
 use Rattle.std.proofs.lemmas.Bool.{and_parts, cases_Bool, cond-true, cond-false, cond_both, eqb-true, false≢true}
 use Rattle.sequences.specs.Characters.{is_inline}
@@ -27,7 +27,7 @@ struck_inline after_underline s (b ∷ c ∷ text) e =
     (λ both. struck_inline after_underline (strike after_underline s c) text (strike_inline after_underline s c e (and_parts (b == 0x08) (is_inline c) both).1))
     (λ _. e)
 
--- the characters are equal, or neither is LF
+-- two characters are equal, or neither is LF
 abbrev pub AreAlike : ℕ → ℕ → Type 0
 AreAlike d n = (d ≡ n) ⊎ (((d == 10) ≡ false) × ((n == 10) ≡ false))
 

@@ -40,7 +40,8 @@ pub pen_at_end-part : (pen : Pen) (c : ℕ) (text : List ℕ)
 unfolding pen_at_end
 pen_at_end-part pen c text = pen_after-skip (more_len c text) (after_first_part pen c text) text
 
--- after a step over the first part, the characters shown so far and those of the rest are still those of the whole text
+-- after a step over the first part, the characters shown so far and those that the rest shows are still all
+-- that the text shows
 pub step_text : (pen next : Pen) (before after : List (ℕ × Style)) (c : ℕ) (rest text : List ℕ) (len : ℕ) → text ≡ c ∷ rest → len ≡ suc (more_len c rest)
     → after ≡ before ++ first_shown pen c rest → next ≡ after_first_part pen c rest → after ++ styled next (drop len text) ≡ before ++ styled pen text
 step_text pen next before after c rest text len t l a n =
@@ -104,7 +105,7 @@ plain_run-pen pen (c ∷ run) rest e none =
     ∙ ap (λ (p : Pen). pen_after 0 p text) (after_first_part-plain pen c text kept (quiet run rest parts.1 none))
     ∙ plain_run-pen (plain_step pen) run rest parts.1 none
 
--- the pen after such characters does not depend on how many there are
+-- the pen after a non-empty run of characters without overstrikes does not depend on the run's length
 plain_pen-some : (pen : Pen) (c : ℕ) (run : List ℕ) → plain_pen pen (c ∷ run) ≡ plain_step pen
 plain_pen-some pen c [] = refl
 plain_pen-some pen c (d ∷ run) = plain_pen-some (plain_step pen) d run
@@ -113,7 +114,7 @@ pub plain_pen-run : (pen : Pen) (run : List ℕ) → 0 < length run → plain_pe
 plain_pen-run pen [] some = absurd (omega arith)
 plain_pen-run pen (c ∷ run) some = plain_pen-some pen c run
 
--- the same holds after a step over such characters
+-- `step_text` for a step over a run of characters without overstrikes
 pub plain_step_text : (pen next : Pen) (before after : List (ℕ × Style)) (text : List ℕ) (n : ℕ) → list_all (λ c. not (is_dropped c)) (take n text) ≡ true
     → after_backspaces (drop n text) ≡ [] → after ≡ before ++ map (λ c. (c, pen.style)) (take n text) → next ≡ plain_pen pen (take n text)
     → after ++ styled next (drop n text) ≡ before ++ styled pen text
@@ -132,7 +133,7 @@ plain_step_pen pen next text n e none p =
     ap (λ (q : Pen). pen_after 0 q (drop n text)) p ∙ sym (plain_run-pen pen (take n text) (drop n text) e none)
     ∙ ap (pen_after 0 pen) (take-append-drop n text)
 
--- all characters of a prefix that is no longer than the longest passing one pass the test
+-- all characters of a prefix pass a test if the prefix is at most `prefix_len` characters long
 pub prefix_all : (p : ℕ → Bool) (text : List ℕ) (n : ℕ) → n ≤ prefix_len p text → list_all p (take n text) ≡ true
 prefix_all p text zero le = refl
 prefix_all p [] (suc n) le = refl

@@ -12,7 +12,7 @@ use Rattle.sequences.specs.declared.look.Look.{Look}
 use Rattle.sequences.specs.declared.style.Link.{Link}
 use Rattle.sequences.specs.declared.style.StyleRun.{StyleRun}
 
--- a list ends with its last element
+-- a non-empty list is all its elements except the last, followed by the last element
 pub last_split : {X : Type 0} (xs : List X) (x : X) → 0 < length xs → x ≡ get_or xs (length xs - 1) x → xs ≡ take (length xs - 1) xs ++ x ∷ []
 last_split xs x some e =
     let whole : length xs - 1 + 1 ≡ length xs = omega arith in
@@ -20,7 +20,7 @@ last_split xs x some e =
     ∙ ap (λ y. take (length xs - 1) xs ++ y ∷ []) (sym e)
 
 module _ (links : List ℕ) where
-  -- one more run sets the style from its start on
+  -- an appended run sets the style of every index from the start of the run on
   style_at-push : (style : Style) (runs : List StyleRun) (run : StyleRun) (k : ℕ)
       → style_at links style (runs ++ run ∷ []) k ≡ (if nat_le run.start k then style_in links run else style_at links style runs k)
   style_at-push style [] run k = refl
@@ -34,7 +34,7 @@ module _ (links : List ℕ) where
   style_at-before runs run k before =
       style_at-push DEFAULT runs run k ∙ cond-false (nat_le run.start k) (style_in links run) (style_at links DEFAULT runs k) (lt-leb run.start k before)
 
-  -- a run that starts at the end changes the style of no character
+  -- an appended run that starts at or after the end of the characters changes no character's style
   pub with_styles-run : (runs : List StyleRun) (run : StyleRun) (k : ℕ) (characters : List ℕ) → k + length characters ≤ run.start
       → with_styles links (runs ++ run ∷ []) k characters ≡ with_styles links runs k characters
   with_styles-run runs run k [] e = refl
@@ -50,7 +50,7 @@ module _ (links : List ℕ) where
       ap (λ rest. (d, style_at links DEFAULT runs k) ∷ rest)
       (with_styles-push runs (k + 1) characters c ∙ ap (λ n. with_styles links runs (k + 1) characters ++ (c, style_at links DEFAULT runs n) ∷ []) e)
 
-  -- the style at the end is that of the last run
+  -- the style at an index at or after the start of the last run is the style of that run
   pub style_at-last : (runs : List StyleRun) (run : StyleRun) (n : ℕ) → 0 < length runs → run ≡ get_or runs (length runs - 1) run → run.start ≤ n
       → style_at links DEFAULT runs n ≡ style_in links run
   style_at-last runs run n some e from =
@@ -67,7 +67,7 @@ module _ (links : List ℕ) where
   style_at-none [] n e = refl
   style_at-none (run ∷ runs) n e = absurd (omega arith)
 
-  -- one more character, appended after the run for it was started, has the style of the run
+  -- a character that is appended after its run was started has the style of the run
   pub push_is : (runs : List StyleRun) (characters more : List ℕ) (c : ℕ) (style : Style) (before : List (ℕ × Style)) → more ≡ characters ++ c ∷ []
       → style_at links DEFAULT runs (length characters) ≡ style → with_styles links runs 0 characters ≡ before
       → with_styles links runs 0 more ≡ before ++ (c, style) ∷ []
@@ -81,7 +81,7 @@ pub on_err : {T E P : Type 0} (r : Result T E) → P → OnErr r P
 on_err (Ok x) p = tt
 on_err (Err e) p = p
 
--- characters after the start of the last run have one style
+-- all characters from the start of the last run on have the same style
 module _ (links : List ℕ) where
   style_at-later : (style : Style) (runs : List StyleRun) (n k : ℕ) → All (λ run. run.start ≤ n) runs → n ≤ k
       → style_at links style runs k ≡ style_at links style runs n
@@ -106,7 +106,7 @@ module _ (links : List ℕ) where
       (with_styles-append runs (k + 1) characters more
       ∙ ap (λ n. with_styles links runs (k + 1) characters ++ with_styles links runs n more) (let e : k + 1 + length characters ≡ k + length (c ∷ characters) = omega arith in e))
 
-  -- more characters, appended after the run for them was started, all have the style of the run
+  -- characters that are appended after their run was started all have the style of the run
   pub push_all_is : (runs : List StyleRun) (characters more all : List ℕ) (style : Style) (before : List (ℕ × Style)) → all ≡ characters ++ more
       → All (λ run. run.start ≤ length characters) runs → style_at links DEFAULT runs (length characters) ≡ style → with_styles links runs 0 characters ≡ before
       → with_styles links runs 0 all ≡ before ++ map (λ c. (c, style)) more
@@ -116,7 +116,7 @@ module _ (links : List ℕ) where
       ∙ ap (λ xs. before ++ xs) (with_styles-later runs (length characters) (0 + length characters) more starts (omega arith))
       ∙ ap (λ (s : Style). before ++ map (λ c. (c, s)) more) at
 
--- more links change the style of no character
+-- appending links changes no character's style
 module _ (links more : List ℕ) where
   style_in-links : (run : StyleRun) → run.link.start + run.link.len ≤ length links → style_in (links ++ more) run ≡ style_in links run
   style_in-links run within =

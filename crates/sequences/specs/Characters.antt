@@ -18,8 +18,8 @@ is_dropped c = is_control c && not (is_kept_control c)
 abbrev pub is_inline : ℕ → Bool
 is_inline c = not (is_control c || (c == 0x2028 || c == 0x2029))
 
--- The characters at which a text can be split, since they are neither dropped nor part of a string: the controls that
--- remain, U+2028 and U+2029.
+-- The characters after which a text can be split, since they are neither dropped nor allowed in a string: the
+-- controls that remain, U+2028 and U+2029.
 abbrev pub ends_piece : ℕ → Bool
 ends_piece c = not (is_dropped c || is_inline c)
 

@@ -1,4 +1,4 @@
--- The sets of characters that a scan skips.
+-- The characters of each class.
 use Rattle.std.specs.Prelude.{ℕ, Bool, not}
 use Rattle.sequences.specs.Characters.{is_dropped, is_inline}
 use Rattle.sequences.specs.Parameters.{is_sgr}

@@ -7,13 +7,13 @@ use Rattle.sequences.specs.declared.lengths.TheConstants.{LONGEST_STRING}
 
 -- The definitions below apply to the text after an introducer.
 
--- For a string that is too long, this is known once the string ends.
+-- The end of a string that is too long is known once a terminator or a character that ends a piece follows.
 abbrev pub knows_long : Bool → List ℕ → Bool
 knows_long is_osc [] = false
 knows_long is_osc (c ∷ text) = ends_piece c || (not (terminator_len is_osc (c ∷ text) == 0) || knows_long is_osc text)
 
--- For any other string, this is known once a character that the string cannot contain follows it. After ESC, one more
--- character is needed.
+-- The end of any other string is known once a character follows that the string cannot contain. If this
+-- character is ESC, one more character is needed.
 abbrev pub knows_string : Bool → List ℕ → Bool
 knows_string is_osc text =
     let n = string_end text in

@@ -16,7 +16,7 @@ characters_of shown = map (λ c. c.0) shown
 abbrev pub ShowsNoControls : Type 0
 ShowsNoControls = (pen : Pen) (text : List ℕ) → list_all remains (characters_of (styled pen text)) ≡ true
 
--- A text without such controls is shown unchanged, in the style in which it begins.
+-- A text without dropped controls is shown unchanged, in the style in which it begins.
 abbrev pub ShowsPlainText : Type 0
 ShowsPlainText = (pen : Pen) (text : List ℕ) → list_all remains text ≡ true → styled pen text ≡ map (λ c. (c, pen.style)) text
 
@@ -24,11 +24,11 @@ ShowsPlainText = (pen : Pen) (text : List ℕ) → list_all remains text ≡ tru
 abbrev pub ShowsTheSame : Type 0
 ShowsTheSame = (pen : Pen) (text : List ℕ) → characters_of (styled pen text) ≡ shown_text text
 
--- The characters that a text shows, taken as a text, are shown unchanged.
+-- Scanning is idempotent: the characters that a text shows are themselves shown unchanged.
 abbrev pub ShowsItself : Type 0
 ShowsItself = (text : List ℕ) → shown_text (shown_text text) ≡ shown_text text
 
--- A text shows what its pieces show, one after the other.
+-- If a text is split after a character that ends a piece, the text shows what both parts show, in order.
 pub record ShowsPieces : Type 0 where
   pub text : (pen : Pen) (piece rest : List ℕ) (c : ℕ) → ends_piece c ≡ true
       → styled pen (piece ++ c ∷ rest) ≡ styled pen (piece ++ c ∷ []) ++ styled (pen_at_end pen (piece ++ c ∷ [])) rest

@@ -1,4 +1,4 @@
--- What the parameters of SGR do (ECMA-48, 8.3.117, with the additions that terminals have in common).
+-- How the parameters of SGR change attributes (ECMA-48, 8.3.117, with the extensions that terminals share).
 use Rattle.std.specs.Prelude.{ℕ, zero, suc, ◌-◌, nat_le, nat_lt, ◌==◌, Bool, true, false, ◌&&◌, ◌||◌, not, List, [], ◌∷◌, length, map, drop, slice_index_or, Option, Some, None, if◌then◌else◌}
 use Rattle.sequences.specs.declared.look.Look.{Look}
 use Rattle.sequences.specs.declared.look.Color.{Color}
@@ -48,7 +48,8 @@ set_basic n look =
     else if nat_le 100 n && nat_lt n 108 then record look { background = Some (Basic (n - 92)) }
     else look
 
--- a parameter without fields, other than 38, 48 and 58; 0 sets the defaults, and unknown parameters change nothing
+-- a parameter with one field, other than 38, 48 and 58; 0 sets the defaults, and unknown parameters change
+-- nothing
 abbrev pub with_parameter : ℕ → Look → Look
 with_parameter n look =
     if n == 0 then PLAIN
@@ -56,7 +57,7 @@ with_parameter n look =
     else if nat_lt n 30 then end_attribute n look
     else set_basic n look
 
--- `4:k`
+-- the effect of `4:k`
 abbrev pub with_underline : ℕ → Look → Look
 with_underline k look =
     if k == 0 then record look { underline = None }
@@ -86,15 +87,15 @@ indexed n = if nat_lt n 256 then Some (Indexed n) else None
 abbrev pub rgb : ℕ → ℕ → ℕ → Option Color
 rgb r g b = if nat_lt r 256 && (nat_lt g 256 && nat_lt b 256) then Some (Rgb r g b) else None
 
--- a value, or 256 if there is none
+-- the value at an index, or 256 if there is none
 abbrev pub value : List ℕ → ℕ → ℕ
 value values k = slice_index_or values k 256
 
--- the kinds of colors: an index, or red, green and blue
+-- the known kinds of color: 5 for an index, and 2 for red, green and blue
 abbrev pub is_kind : ℕ → Bool
 is_kind kind = kind == 5 || kind == 2
 
--- the color that some values begin with: kind 5 and an index, or kind 2 and red, green and blue
+-- the color that a list of values begins with: kind 5 and an index, or kind 2 and red, green and blue
 abbrev pub color_of : List ℕ → Option Color
 color_of values =
     if value values 0 == 5 then indexed (value values 1)
@@ -109,35 +110,35 @@ field_color fields =
     else if value fields 0 == 2 && length fields == 5 then color_of (2 ∷ drop 2 fields)
     else None
 
--- a parameter with fields, such as `4:3`
+-- a parameter with several fields, such as `4:3`
 abbrev pub with_fields : ℕ → List ℕ → Look → Look
 with_fields n fields look =
     if is_color n then with_color n (field_color fields) look
     else if n == 4 && length fields == 1 then with_underline (value fields 0) look
     else look
 
--- the value of a parameter, or 256 if it has fields
+-- the value of a parameter, or 256 unless the parameter has exactly one field
 abbrev pub single : List ℕ → ℕ
 single (n ∷ []) = n
 single fields = 256
 
--- What a parameter does, given the parameters that follow it. In `38;5;n` and `38;2;r;g;b`, the following parameters
--- are the values of the color.
+-- How a parameter changes attributes, given the parameters that follow it. In `38;5;n` and `38;2;r;g;b`, the
+-- following parameters are the values of the color.
 abbrev pub changed : Look → List ℕ → List (List ℕ) → Look
 changed look [] following = look
 changed look (n ∷ []) following =
     if is_color n then with_color n (color_of (map single following)) look else with_parameter n look
 changed look (n ∷ field ∷ fields) following = with_fields n (field ∷ fields) look
 
--- the number of following parameters that belong to 38, 48 or 58: all of them if the kind is unknown
+-- the number of following parameters that belong to 38, 48 or 58: all of them if the kind of color is unknown
 abbrev pub color_len : List (List ℕ) → ℕ
 color_len following =
     if value (map single following) 0 == 5 then 2
     else if value (map single following) 0 == 2 then 4
     else length following
 
--- the number of following parameters that belong to a parameter with these fields: if the second field is a known kind
--- of color, none do
+-- The number of following parameters that belong to a parameter with these fields. If a color parameter has a
+-- second field, none do for a known kind of color, and all do for an unknown kind.
 abbrev pub taken : List ℕ → List (List ℕ) → ℕ
 taken parameter following =
     if not (is_color (value parameter 0)) then 0

@@ -80,7 +80,7 @@ reset_text look = if same_look look PLAIN then [] else sgr_of []
 abbrev pub look_text : Look → List ℕ
 look_text look = if same_look look PLAIN then [] else sgr_of (parameters_of look)
 
--- the characters that are written between two attributes
+-- the characters that change the attributes from `before` to `after`
 abbrev pub look_between : Look → Look → List ℕ
 look_between before after = if same_look before after then [] else reset_text before ++ look_text after
 
@@ -95,11 +95,12 @@ osc_of link = 0x1B ∷ (codes "]8;" ++ (link_text link ++ (0x1B ∷ 0x5C ∷ [])
 abbrev pub link_between : List ℕ → List ℕ → List ℕ
 link_between before after = if bytes_eq before after then [] else osc_of after
 
--- the characters that are written between characters with two styles
+-- the characters that change the style from `before` to `after`
 unfoldable pub between : Style → Style → List ℕ
 between before after = look_between before.look after.look ++ link_between before.link after.link
 
--- A line that begins and ends in the default style.
+-- The characters that are written for the rest of a line, after a character in the given style. The line ends
+-- in the default style.
 abbrev pub written_after : Style → List (ℕ × Style) → List ℕ
 written_after style [] = between style DEFAULT
 written_after style (shown ∷ line) = between style shown.1 ++ shown.0 ∷ written_after shown.1 line

@@ -5,7 +5,7 @@ use Rattle.sequences.specs.declared.look.Look.{Look}
 use Rattle.sequences.specs.declared.overstrikes.Struck.{Struck}
 use Rattle.sequences.specs.declared.look.Underline.TheVariants.{Single}
 
--- the characters that follow, each directly after a BS
+-- the characters at the start of a text that each directly follow a BS
 abbrev pub after_backspaces : List ℕ → List ℕ
 after_backspaces (b ∷ c ∷ text) = if b == 0x08 && is_inline c then c ∷ after_backspaces text else []
 after_backspaces text = []
@@ -14,9 +14,10 @@ after_backspaces text = []
 abbrev pub strikes : ℕ → List ℕ → List ℕ
 strikes c text = if is_inline c then after_backspaces text else []
 
--- Strikes one more character. X over X is bold. A low line (U+005F) under or over X is an underline. A low line over a
--- low line is underlined if the character before is underlined and not bold, and otherwise bold. A third low line makes
--- it both underlined and bold. Any other character replaces the character before it.
+-- Strikes one more character. X over X is bold. A low line (U+005F) under or over X is an underline. A low
+-- line over a low line is underlined if the character before is underlined and not bold, and otherwise bold.
+-- A third low line makes the result both underlined and bold. Any other character replaces the character
+-- before it.
 abbrev pub strike : Bool → Struck → ℕ → Struck
 strike after_underline s c =
     if c == s.shown then
@@ -27,14 +28,14 @@ strike after_underline s c =
     else if s.shown == 0x5F then record { shown = c; bold = false; underlined = true }
     else record { shown = c; bold = false; underlined = false }
 
--- the first character of a text, with all that is struck over it
+-- the result of striking characters over the first one of a text
 abbrev pub struck : Bool → ℕ → List ℕ → Struck
 struck after_underline c text = fold (strike after_underline) (record { shown = c; bold = false; underlined = false }) (strikes c text)
 
--- the attributes of a place, given the attributes that SGR has set
+-- the attributes at a position, given the attributes that SGR has set
 abbrev pub struck_look : Look → Struck → Look
 struck_look look s = record look { bold = look.bold || s.bold; underline = if s.underlined then Some Single else look.underline }
 
--- whether attributes are underlined and not bold
+-- whether attributes include an underline but not bold
 abbrev pub is_underlined_only : Look → Bool
 is_underlined_only look = is_some look.underline && not look.bold

@@ -12,7 +12,7 @@ is_semicolon c = c == 0x3B
 abbrev pub is_colon : ℕ → Bool
 is_colon c = c == 0x3A
 
--- a decimal number, or 256 for all larger ones, since none of them has a meaning; no digits mean 0
+-- a decimal number, or 256 if it is larger, since no number above 255 has a meaning; no digits mean 0
 abbrev pub with_digit : ℕ → ℕ → ℕ
 with_digit n digit = min 256 (10 * n + (digit - 0x30))
 
@@ -26,19 +26,19 @@ fields text = map number (slice_split is_colon text)
 abbrev pub parameters : List ℕ → List (List ℕ)
 parameters text = map fields (slice_split is_semicolon text)
 
--- the parameters of SGR, given the text after CSI; `None` for another control sequence
+-- the parameters of SGR, given the text after CSI; `None` for any other control sequence
 abbrev pub sgr : List ℕ → Option (List (List ℕ))
 sgr text = if slice_index text (prefix_len is_sgr text) == 0x6D then Some (parameters (take (prefix_len is_sgr text) text)) else None
 
--- A link: its parameters, a semicolon and its URI. An empty URI ends a link, and is represented as an empty link.
--- Without a semicolon, there is no URI.
+-- A link: its parameters, a semicolon and its URI. An empty URI ends a link, and is represented as an empty
+-- link. A string without a semicolon is not a link.
 abbrev pub uri_link : List ℕ → Option (List ℕ)
 uri_link link =
     if position_or_len is_semicolon link == length link then None
     else if position_or_len is_semicolon link + 1 == length link then Some []
     else Some link
 
--- the link of OSC 8, given the string after OSC; `None` for another string
+-- the link of OSC 8, given the string after OSC; `None` for any other string
 abbrev pub osc_link : List ℕ → Option (List ℕ)
 osc_link (a ∷ b ∷ link) = if a == 0x38 && b == 0x3B then uri_link link else None
 osc_link text = None

@@ -1,5 +1,6 @@
--- The parts of a text between separators. The text includes the character before its first part: an introducer or a
--- separator. So an empty text has no parts. Only the code uses these definitions.
+-- The parts of a text between separators. The text includes the character before its first part: an
+-- introducer or a separator. So an empty text has no parts. Only contracts use these definitions; the
+-- definition of what a text shows does not.
 use Rattle.std.specs.Prelude.{ℕ, suc, ◌==◌, List, [], ◌∷◌, map}
 use Rattle.std.specs.List.{position_or_len, slice_split}
 use Rattle.sequences.specs.Parameters.{fields, number}
@@ -8,7 +9,7 @@ abbrev pub parts_after : ℕ → List ℕ → List (List ℕ)
 parts_after separator [] = []
 parts_after separator (c ∷ text) = slice_split (λ x. x == separator) text
 
--- the length of the first part with the character before it
+-- the length of the first part, including the character before the part
 abbrev pub first_len : ℕ → List ℕ → ℕ
 first_len separator [] = 0
 first_len separator (c ∷ text) = suc (position_or_len (λ x. x == separator) text)

@@ -1,9 +1,9 @@
--- Characters without overstrikes, several at a time. Only the code uses these definitions.
+-- Runs of characters without overstrikes. Only contracts use these definitions.
 use Rattle.std.specs.Prelude.{ℕ, List, [], ◌∷◌}
 use Rattle.sequences.specs.Overstrikes.{is_underlined_only}
 use Rattle.sequences.specs.Styled.{Pen}
 
--- the pen after one such character, and after several
+-- the pen after one character without overstrikes, and after a run of them
 abbrev pub plain_step : Pen → Pen
 plain_step pen = record pen { after_underline = is_underlined_only pen.style.look }
 

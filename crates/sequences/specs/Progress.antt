@@ -37,7 +37,7 @@ after_long is_osc c =
     else if ends_piece c || (c == 0x9C || (is_osc && c == 0x07)) then Known
     else InLong is_osc
 
--- the state after such a string, ESC and one more character
+-- the state after a string that is too long, ESC and one more character
 abbrev pub after_long_escape : Bool → ℕ → Progress
 after_long_escape is_osc c = if c == 0x5C then Known else after_long is_osc c
 

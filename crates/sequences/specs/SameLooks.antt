@@ -1,4 +1,4 @@
--- Whether attributes are equal, and the numbers of SGR for kinds of underlines and of blinking.
+-- Whether attributes are equal, and the SGR numbers of the kinds of underline and of blinking.
 use Rattle.std.specs.Prelude.{ℕ, ◌==◌, Bool, true, false, ◌&&◌, not, Option, Some, None}
 use Rattle.sequences.specs.declared.look.Look.{Look}
 use Rattle.sequences.specs.declared.look.Color.{Color}
@@ -8,7 +8,7 @@ use Rattle.sequences.specs.declared.look.Underline.TheVariants.{Single, Double, 
 use Rattle.sequences.specs.declared.look.Blink.{Blink}
 use Rattle.sequences.specs.declared.look.Blink.TheVariants.{Slow, Rapid}
 
--- the number k in `4:k`
+-- the k for which `4:k` sets an underline, or 0 for none
 abbrev pub underline_kind : Option Underline → ℕ
 underline_kind None = 0
 underline_kind (Some Single) = 1
@@ -17,7 +17,7 @@ underline_kind (Some Curly) = 3
 underline_kind (Some Dotted) = 4
 underline_kind (Some Dashed) = 5
 
--- 5 or 6, or 0 for none
+-- the SGR parameter that sets a kind of blinking, or 0 for none
 abbrev pub blink_number : Option Blink → ℕ
 blink_number None = 0
 blink_number (Some Slow) = 5

@@ -19,7 +19,7 @@ is_escape_final c = nat_le 0x30 c && nat_le c 0x7E
 
 -- The definitions below apply to the text after an introducer. The lengths do not include the introducer.
 
--- a control sequence: any parameters, any intermediates, and a final character at this index
+-- the index of the final character of a control sequence, after any parameters and any intermediates
 abbrev pub csi_end : List ℕ → ℕ
 csi_end text = prefix_len is_parameter text + prefix_len is_intermediate (drop (prefix_len is_parameter text) text)
 
@@ -31,7 +31,7 @@ abbrev pub escape_len : List ℕ → Option ℕ
 escape_len text =
     if is_escape_final (slice_index text (prefix_len is_intermediate text)) then Some (prefix_len is_intermediate text + 1) else None
 
--- the characters of a control string
+-- the number of characters of a control string
 abbrev pub string_end : List ℕ → ℕ
 string_end text = prefix_len is_inline text
 
@@ -42,8 +42,8 @@ terminator_len is_osc text =
     if slice_index text 0 == 0x9C || (is_osc && slice_index text 0 == 0x07) then 1
     else if slice_index text 0 == 0x1B && slice_index text 1 == 0x5C then 2 else 0
 
--- A string that is too long ends with its terminator, or else before the next character that ends a piece. This
--- definition computes the string's length after its first characters.
+-- A string that is too long ends with its terminator, or else before the next character that ends a piece.
+-- This is the length of the string without the characters that `string_end` counts.
 abbrev pub long_len : Bool → List ℕ → ℕ
 long_len is_osc [] = 0
 long_len is_osc (c ∷ text) =
@@ -51,7 +51,8 @@ long_len is_osc (c ∷ text) =
     else if terminator_len is_osc (c ∷ text) == 0 then suc (long_len is_osc text)
     else terminator_len is_osc (c ∷ text)
 
--- An unterminated string is incomplete, unless it is longer than the limit, which drops it.
+-- A string that is longer than the limit is dropped, with or without a terminator. Any other string without a
+-- terminator is incomplete.
 abbrev pub string_len : Bool → List ℕ → Option ℕ
 string_len is_osc text =
     let n = string_end text in
@@ -60,11 +61,11 @@ string_len is_osc text =
     else if terminator == 0 then None
     else Some (n + terminator)
 
--- what opens a string after ESC: P for DCS, X for SOS, ] for OSC, ^ for PM and _ for APC
+-- the characters that open a string after ESC: P for DCS, X for SOS, ] for OSC, ^ for PM and _ for APC
 abbrev pub opens_string : ℕ → Bool
 opens_string c = c == 0x50 || (c == 0x58 || (c == 0x5D || (c == 0x5E || c == 0x5F)))
 
--- the length of the sequence that ESC and a text begin, without the ESC
+-- the length, without ESC, of the sequence that consists of ESC and the start of a text
 abbrev pub len_after_escape : List ℕ → Option ℕ
 len_after_escape [] = None
 len_after_escape (c ∷ text) =
@@ -80,7 +81,7 @@ sequence_len (c ∷ text) =
     else if is_c1_introducer c then len_after_escape ((c - 0x40) ∷ text)
     else None
 
--- what follows ESC, for a text that begins with a sequence: a C1 control is read as its ESC form
+-- the text after ESC, for a text that begins with a sequence; a C1 control is read as its ESC form
 abbrev pub after_escape : List ℕ → List ℕ
 after_escape [] = []
 after_escape (c ∷ text) = if c == 0x1B then text else (c - 0x40) ∷ text

@@ -10,7 +10,7 @@ use Rattle.sequences.specs.Overstrikes.{is_underlined_only, strikes, struck, str
 use Rattle.sequences.specs.declared.look.Look.{Look}
 use Rattle.sequences.specs.declared.look.TheConstants.{PLAIN}
 
--- attributes and a link: its parameters, a semicolon and its URI; or empty, for no link
+-- attributes and a link, which is its parameters, a semicolon and its URI, or is empty if there is none
 pub record Style : Type 0 where
   pub look : Look
   pub link : List ℕ
@@ -18,8 +18,8 @@ pub record Style : Type 0 where
 abbrev pub DEFAULT : Style
 DEFAULT = record { look = PLAIN; link = [] }
 
--- The state that a text passes to the text after it: a style, the length of all links of the paragraph so far, and
--- whether the last character is underlined and not bold.
+-- The state that a text passes to the text after it: a style, the total length of the links of the paragraph
+-- so far, and whether the last character is underlined and not bold.
 pub record Pen : Type 0 where
   pub style : Style
   pub links_len : ℕ
@@ -37,7 +37,7 @@ abbrev pub with_sgr : Pen → Option (List (List ℕ)) → Pen
 with_sgr pen None = pen
 with_sgr pen (Some parameters) = record pen { style = record { look = applied pen.style.look parameters; link = pen.style.link } }
 
--- the pen after OSC 8; a link beyond the limit is dropped, so that the text after it has no link
+-- the pen after OSC 8; a link that would exceed the limit is dropped, and the text after it has no link
 abbrev pub with_link : Pen → Option (List ℕ) → Pen
 with_link pen None = pen
 with_link pen (Some link) =
@@ -57,12 +57,12 @@ after_sequence pen (c ∷ text) =
     else if c == 0x5D then with_osc pen text
     else pen
 
--- the style of a character with all that is struck over it
+-- the style of a character and the characters struck over it
 abbrev pub struck_style : Pen → ℕ → List ℕ → Style
 struck_style pen c text = record { look = struck_look pen.style.look (struck pen.after_underline c text); link = pen.style.link }
 
--- The first part of a text is a complete sequence, a character with all that is struck over it, or a dropped control.
--- This definition computes the length of the first part after its first character.
+-- The first part of a text is a complete sequence, a character with the characters struck over it, or a
+-- dropped control. This is the length of the first part without its first character.
 abbrev pub more_len : ℕ → List ℕ → ℕ
 more_len c text = unwrap_or (sequence_len (c ∷ text)) (1 + 2 * length (strikes c text)) - 1
 
@@ -70,7 +70,7 @@ more_len c text = unwrap_or (sequence_len (c ∷ text)) (1 + 2 * length (strikes
 abbrev pub first_shown : Pen → ℕ → List ℕ → List (ℕ × Style)
 first_shown pen c text = if is_dropped c then [] else ((struck pen.after_underline c text).shown, struck_style pen c text) ∷ []
 
--- the pen after a character with all that is struck over it
+-- the pen after a character and the characters struck over it
 abbrev pub after_character : Pen → ℕ → List ℕ → Pen
 after_character pen c text =
     record pen { after_underline = is_underlined_only (struck_look pen.style.look (struck pen.after_underline c text)) }

@@ -17,7 +17,7 @@ abbrev pub style_at : List ℕ → Style → List StyleRun → ℕ → Style
 style_at links style [] k = style
 style_at links style (run ∷ runs) k = style_at links (if nat_le run.start k then style_in links run else style) runs k
 
--- characters with their styles, the first one at index k
+-- characters with their styles, where the first character is at index k
 abbrev pub with_styles : List ℕ → List StyleRun → ℕ → List ℕ → List (ℕ × Style)
 with_styles links runs k [] = []
 with_styles links runs k (c ∷ characters) = (c, style_at links DEFAULT runs k) ∷ with_styles links runs (k + 1) characters

@@ -5,7 +5,7 @@ ghost use Rattle.sequences.specs.Characters.{ends_piece, is_c1_introducer, is_co
 ghost use Rattle.sequences.specs.Characters.{is_kept_control};
 ghost use Rattle.sequences.specs.Classes.{is_in};
 
-/// Sets of characters that a scan skips.
+/// Classes of characters. `prefix_len` counts the characters of a class that a text begins with.
 #[derive(Clone, Copy)]
 pub(crate) enum Class {
     Parameter,
@@ -41,7 +41,8 @@ pub(crate) fn is_inline(c: char) -> bool
     !(is_control(c) || c == '\u{2028}' || c == '\u{2029}')
 }
 
-// Returns whether a text can be split at a character: it is neither dropped nor part of a string.
+// Returns whether a text can be split after a character, since the character is neither dropped nor allowed
+// in a string.
 pub(crate) fn ends_piece(c: char) -> bool
     ensures { result ≡ ends_piece c }
 {
@@ -67,7 +68,7 @@ pub(crate) fn is_in(class: Class, c: char) -> bool
     }
 }
 
-// Returns the number of characters of a class at the start of a text.
+// Returns the length of the longest prefix of a text whose characters are all in a class.
 #[inline(always)]
 pub(crate) fn prefix_len(class: Class, text: &[char]) -> usize
     ensures len { result ≡ prefix_len (is_in class) text.now }

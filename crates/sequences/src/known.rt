@@ -8,19 +8,19 @@ ghost use Rattle.sequences.specs.Progress.{after_long_escape};
 use crate::characters::{Class, ends_piece, is_c1_introducer, is_in, is_inline};
 use crate::lengths::{ESC, LONGEST_STRING, is_intermediate, opens_string};
 
-/// What is known from the first characters of a text about the sequence that they begin.
+/// The state of a search for the end of the sequence that a text begins with.
 #[derive(Clone, Copy)]
 pub enum Progress {
     /// There are no characters yet.
     Start,
     /// The only character is ESC.
     Escape,
-    /// The last character introduces a control sequence or is a parameter of it.
+    /// The last character introduces a control sequence or is a parameter character of one.
     Parameters,
-    /// The last character is an intermediate.
+    /// The last character is an intermediate character of a control sequence or an escape sequence.
     Intermediates,
-    /// The last characters are the introducer of a string and this number of its characters. The first field
-    /// is true for OSC.
+    /// The characters so far are in a string. The first field is true for OSC, and the second field is the
+    /// number of characters of the string so far.
     InString(bool, usize),
     /// The last character is an ESC after a string.
     AfterString,
@@ -28,7 +28,7 @@ pub enum Progress {
     InLong(bool),
     /// The last character is an ESC in a string that is too long. The field is true for OSC.
     AfterLong(bool),
-    /// Whatever follows, the sequence ends at the same place, or there is no sequence.
+    /// The end of the sequence is known, or there is no sequence. More characters cannot change this.
     Known,
 }
 
@@ -73,7 +73,7 @@ impl Progress {
     }
 }
 
-/// Returns whether `sequence_len` returns the same result for a text, whatever follows it.
+/// Returns whether no appended text can change the result of `sequence_len`.
 pub fn is_sequence_known(text: &[char]) -> bool
     ensures { result ≡ knows_sequence text.now }
 {
@@ -127,7 +127,7 @@ fn after_intermediate(c: char) -> Progress
     }
 }
 
-// Returns the state after this number of characters of a string and one more character.
+// Returns the state after `len` characters of a string and one more character.
 fn after_string(is_osc: bool, len: usize, c: char) -> Progress
     ensures { result ≡ after_string is_osc len c }
 {

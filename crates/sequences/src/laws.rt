@@ -3,8 +3,7 @@ ghost use Rattle.sequences.specs.Laws.{ShowsItself, ShowsNoControls, ShowsPieces
 ghost use Rattle.sequences.specs.Laws.{ShowsTheSame};
 ghost use Rattle.sequences.specs.Laws.{WritesPlainText};
 
-/// States, as a theorem, that none of the characters that a text shows is a control of a kind that is
-/// dropped.
+/// States, as a theorem, that no text shows a control of a kind that is dropped.
 pub fn shows_no_controls()
     ensures { ShowsNoControls }
 {}
@@ -20,13 +19,14 @@ pub fn shows_the_same()
     ensures { ShowsTheSame }
 {}
 
-/// States, as a theorem, that the characters that a text shows, taken as a text, are shown unchanged.
+/// States, as a theorem, that scanning is idempotent: the characters that a text shows are themselves shown
+/// unchanged.
 pub fn shows_itself()
     ensures { ShowsItself }
 {}
 
-/// States, as a theorem, that a text shows what its pieces show. Each piece ends with a control that remains,
-/// with U+2028 or with U+2029. No sequence and no overstrike spans such a character.
+/// States, as a theorem, that a text shows what its pieces show, in order. Each piece ends with a control
+/// that remains, with U+2028 or with U+2029. No sequence and no overstrike spans such a character.
 pub fn shows_pieces()
     ensures { ShowsPieces }
 {}

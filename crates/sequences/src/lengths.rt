@@ -7,7 +7,7 @@ ghost use Rattle.sequences.specs.Sequences.{string_end, string_len, terminator_l
 
 use crate::characters::{Class, char_at, ends_piece, is_c1_introducer, prefix_len};
 
-/// The longest string that can have a meaning, in characters.
+/// The maximum length of a control string, in characters. Longer strings are dropped.
 pub const LONGEST_STRING: usize = 4_096;
 
 pub(crate) const ESC: char = '\u{1b}';

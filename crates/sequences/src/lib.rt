@@ -1,8 +1,8 @@
 //! Finds what a terminal shows for a text: the characters that remain after control sequences, overstrikes
 //! and dropped controls are removed, each with a style.
 //!
-//! A `Scanner` collects the characters of a paragraph. `push_between` writes what changes from one style to
-//! the next:
+//! A `Scanner` collects the characters of a paragraph. `push_between` writes the sequences that change one
+//! style to the next:
 //!
 //! ```rust
 //! let mut scanner = Scanner::new(rt.alloc());

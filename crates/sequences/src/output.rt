@@ -1,4 +1,4 @@
-//! Writes the sequences between characters with styles.
+//! Writes the sequences that change the style between two characters.
 ghost use Rattle.std.specs.Prelude.{◌≡◌, ◌<◌, ◌≤◌, ◌+◌, ◌++◌, ◌∷◌, [], OnOk, IfOk, IfSome, codes, length};
 ghost use Rattle.std.specs.Prelude.{take, drop};
 ghost use Rattle.sequences.specs.Led.{led};
@@ -49,7 +49,7 @@ fn push_three(separator: char, r: u8, g: u8, b: u8, out: &mut Vec<char>) -> Resu
     push_digits(u32::from(b), out)
 }
 
-// The functions below write parameters with a semicolon before each.
+// The functions below write a semicolon before each parameter.
 fn push_flag(holds: bool, parameter: &[char], out: &mut Vec<char>) -> Result<(), AllocError>
     ensures { OnOk result (out.new.items ≡ out.old.items ++ led (flag_parameter holds parameter.now)) }
 {
@@ -166,8 +166,8 @@ fn push_parameters(look: &Look, out: &mut Vec<char>) -> Result<(), AllocError>
     push_colors(look, out)
 }
 
-// Replaces the semicolon at an index with the end of the introducer. If there is no semicolon, appends the
-// end of the introducer.
+// Replaces the semicolon at an index with `[`, the end of the introducer. Appends `[` if the index is the end
+// of the buffer.
 fn end_introducer(at: usize, out: &mut Vec<char>) -> Result<(), AllocError>
     requires { at ≤ length out.old.items }
     ensures { OnOk result (out.new.items ≡ take at out.old.items ++ 91 ∷ drop (at + 1) out.old.items) }
@@ -241,8 +241,8 @@ fn push_link_between(before: &[char], after: &[char], out: &mut Vec<char>) -> Re
 }
 
 #[tactic(auto, unfolding(crate::specs::Output::between))]
-/// Appends the sequences between characters with two styles. Lines begin and end in the default style. After
-/// a failed allocation, some characters may be missing.
+/// Appends the sequences that change the style from `before` to `after`. Lines begin and end in the default
+/// style. After a failed allocation, some characters may be missing.
 pub fn push_between(
     before: &StyleRef,
     after: &StyleRef,

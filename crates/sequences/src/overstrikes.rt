@@ -10,7 +10,7 @@ pub(crate) const BS: char = '\u{8}';
 
 const LOW_LINE: char = '_';
 
-/// What a place shows: a character, and the attributes that overstrikes add to it.
+/// What is shown at a position: a character, and the attributes that overstrikes add to it.
 #[derive(Clone, Copy)]
 pub(crate) struct Struck {
     pub shown: char,
@@ -18,7 +18,7 @@ pub(crate) struct Struck {
     pub underlined: bool,
 }
 
-// Strikes one more character.
+// Returns what is shown at a position after one more character is struck there.
 fn strike(after_underline: bool, at: Struck, c: char) -> Struck
     ensures { result ≡ strike after_underline at c }
 {
@@ -70,7 +70,8 @@ fn after_backspace(text: &[char]) -> Option<(char, &[char])>
     }
 }
 
-/// Strikes all characters over the first one of a text, given the text after it. Also returns their number.
+/// Strikes over `first` the characters that follow it, each after a BS. Returns the result and the number of
+/// these characters. `text` is the text after `first`.
 pub(crate) fn struck_first(after_underline: bool, first: char, text: &[char]) -> (Struck, usize)
     ensures struck { result.0 ≡ struck after_underline first text.now }
     ensures count { result.1 ≡ length (strikes first text.now) }
@@ -105,14 +106,14 @@ fn strike_all(after_underline: bool, first: Struck, text: &[char]) -> (Struck, u
     (at, count)
 }
 
-// Returns whether attributes have an underline and are not bold.
+// Returns whether attributes include an underline but not bold.
 pub(crate) fn is_underlined_only(look: Look) -> bool
     ensures { result ≡ is_underlined_only look }
 {
     look.underline.is_some() && !look.bold
 }
 
-// Returns the attributes of a place, given the attributes that SGR has set.
+// Returns the attributes at a position, given the attributes that SGR has set.
 pub(crate) fn struck_look(look: Look, at: Struck) -> Look
     ensures { result ≡ struck_look look at }
 {

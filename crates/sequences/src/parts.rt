@@ -1,14 +1,14 @@
 //! The parameters of SGR and their fields.
 //!
-//! Lists of parameters, and single parameters, are passed with the character before them. So an empty text
-//! has no parameters, and an empty parameter has one field.
+//! Lists of parameters, and single parameters, are passed with the character before them. So an empty slice
+//! has no parts, and a slice of one character has one empty part.
 ghost use Rattle.std.specs.Prelude.{◌≡◌, ◌==◌, ◌≤◌, ◌<◌, ◌+◌, length, drop, map, take, count_by};
 ghost use Rattle.std.specs.List.{position_or_len};
 ghost use Rattle.sequences.specs.Looks.{single, value};
 ghost use Rattle.sequences.specs.Parameters.{number};
 ghost use Rattle.sequences.specs.Parts.{fields_after, first_len, parameters_after, parts_after};
 
-/// The number that represents a value that is missing or has no meaning.
+/// The number that represents a missing or meaningless value.
 pub(crate) const NO_VALUE: u32 = 256;
 
 fn number(digits: &[char]) -> u32
@@ -35,7 +35,7 @@ pub(crate) fn part_end(separator: char, text: &[char]) -> usize
     text.len()
 }
 
-// Returns the length of the first part of a text with the character before it.
+// Returns the length of the first part of a text, including the character before the part.
 fn first_len(separator: char, text: &[char]) -> usize
     ensures len { result ≡ first_len separator text.now }
     ensures within { result ≤ length text.now }
@@ -100,7 +100,7 @@ pub(crate) fn field_count(parameter: &[char]) -> usize
     part_count(':', parameter)
 }
 
-/// Returns a field of a parameter, or `NO_VALUE`.
+/// Returns the field at an index of a parameter, or `NO_VALUE` if there is none.
 pub(crate) fn field(parameter: &[char], k: usize) -> u32
     ensures value { result ≡ value (fields_after parameter.now) k }
     ensures small { result ≤ 256 }
@@ -109,7 +109,7 @@ pub(crate) fn field(parameter: &[char], k: usize) -> u32
     first_field(rest)
 }
 
-// Returns the first field of a parameter, or `NO_VALUE`.
+// Returns the first field of a parameter, or `NO_VALUE` if there is none.
 fn first_field(text: &[char]) -> u32
     ensures value { result ≡ value (fields_after text.now) 0 }
     ensures small { result ≤ 256 }
@@ -137,7 +137,7 @@ pub(crate) fn parameter_count(text: &[char]) -> usize
     part_count(';', text)
 }
 
-/// Returns the value of a parameter, or `NO_VALUE` if it has several fields.
+/// Returns the value of a parameter, or `NO_VALUE` unless the parameter has exactly one field.
 pub(crate) fn single(parameter: &[char]) -> u32
     ensures value { result ≡ single (fields_after parameter.now) }
     ensures small { result ≤ 256 }
@@ -149,7 +149,8 @@ pub(crate) fn single(parameter: &[char]) -> u32
     }
 }
 
-/// Returns the value of the parameter at an index of a text, or `NO_VALUE`.
+/// Returns the value of the parameter at an index of a text, or `NO_VALUE` if there is no such parameter or
+/// it has several fields.
 pub(crate) fn single_at(text: &[char], k: usize) -> u32
     ensures value { result ≡ value (map single (parameters_after text.now)) k }
     ensures small { result ≤ 256 }

@@ -1,4 +1,4 @@
-//! Whether attributes are equal, and the numbers of SGR for kinds of underlines and of blinking.
+//! Whether attributes are equal, and the SGR numbers of the kinds of underline and of blinking.
 ghost use Rattle.std.specs.Prelude.{◌≡◌};
 ghost use Rattle.sequences.specs.SameLooks.{blink_number, same_color, same_colors, same_flag, same_flags};
 ghost use Rattle.sequences.specs.SameLooks.{same_look};
@@ -6,7 +6,7 @@ ghost use Rattle.sequences.specs.SameLooks.{underline_kind};
 
 use crate::look::{Blink, Color, Look, Underline};
 
-/// Returns the number k in `4:k`.
+/// Returns the k for which the SGR parameter `4:k` sets an underline, or 0 for none.
 pub(crate) fn underline_kind(underline: Option<Underline>) -> u32
     ensures { result ≡ underline_kind underline }
 {
@@ -20,7 +20,7 @@ pub(crate) fn underline_kind(underline: Option<Underline>) -> u32
     }
 }
 
-/// Returns 5 or 6, or 0 for none.
+/// Returns the SGR parameter that sets a kind of blinking, or 0 for none.
 pub(crate) fn blink_number(blink: Option<Blink>) -> u32
     ensures { result ≡ blink_number blink }
 {
@@ -69,7 +69,7 @@ fn same_colors(a: &Look, b: &Look) -> bool
         && same_color(a.underline_color, b.underline_color)
 }
 
-/// Returns whether attributes are equal.
+/// Returns whether two sets of attributes are equal.
 pub(crate) fn same_look(a: &Look, b: &Look) -> bool
     ensures { result ≡ same_look a.now b.now }
 {

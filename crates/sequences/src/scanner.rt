@@ -74,7 +74,7 @@ impl Scanner {
         Ok(())
     }
 
-    // Applies SGR, given a control sequence with the last character of its introducer.
+    // Applies a control sequence if it is SGR. `sequence` begins with the last character of its introducer.
     fn apply_sgr(&mut self, sequence: &[char])
         requires { 0 < length sequence.now }
         ensures text { styled_of self.new.text ≡ styled_of self.old.text }
@@ -85,7 +85,7 @@ impl Scanner {
         }
     }
 
-    // Applies OSC, given the text after it.
+    // Applies an OSC string, given the text after its introducer.
     fn apply_osc(&mut self, text: &[char]) -> Result<(), AllocError>
         ensures text { styled_of self.new.text ≡ styled_of self.old.text }
         ensures pen { OnOk result (pen_of self.new ≡ with_osc (pen_of self.old) text.now) }
@@ -119,8 +119,8 @@ impl Scanner {
         }
     }
 
-    // Appends a character with all that is struck over it, and returns the number of characters after the
-    // first one.
+    // Appends `first` with the characters struck over it. Returns the number of characters of `rest` that
+    // belong to the overstrikes.
     fn push_struck(&mut self, first: char, rest: &[char]) -> Result<usize, AllocError>
         ensures len { IfOk result (λ len. len ≡ 2 * length (strikes first rest.now)) }
         ensures within { IfOk result (λ len. len ≤ length rest.now) }
@@ -171,7 +171,7 @@ impl Scanner {
         Ok(())
     }
 
-    // Processes some characters of a text, and returns their number.
+    // Processes one or more characters at the start of a text, and returns their number.
     fn advance(&mut self, text: &[char]) -> Result<usize, AllocError>
         requires { 0 < length text.now }
         ensures some { IfOk result (λ len. 0 < len) }
@@ -182,7 +182,7 @@ impl Scanner {
         ensures pen { IfOk result (λ len. pen_at_end (pen_of self.new) (drop len text.now)
             ≡ pen_at_end (pen_of self.old) text.now) }
     {
-        // Most texts have few sequences.
+        // Fast path: most texts have few sequences.
         let len = plain_len(text);
         if len > 0 {
             self.push_plain(text.split_at(len).0)?;
@@ -226,8 +226,8 @@ fn after_escape(text: &[char]) -> Option<(u32, &[char])>
     }
 }
 
-// Returns the parameters of SGR with the character before them, given a control sequence with the last
-// character of its introducer.
+// Returns the parameters of a control sequence with the character before them, or `None` if it is not SGR.
+// `sequence` begins with the last character of its introducer.
 fn sgr_parameters(sequence: &[char]) -> Option<&[char]>
     requires { 0 < length sequence.now }
     ensures { MatchOption result (sgr (drop 1 sequence.now) ≡ None)
@@ -242,7 +242,8 @@ fn sgr_parameters(sequence: &[char]) -> Option<&[char]>
     }
 }
 
-// Returns a number of characters at the start of a text that are all shown unchanged.
+// Returns the length of a prefix of a text whose characters are all shown unchanged. A longer prefix may
+// exist.
 fn plain_len(text: &[char]) -> usize
     ensures within { result ≤ length text.now }
     ensures kept { list_all (λ c. not (is_dropped c)) (take result text.now) ≡ true }

@@ -1,4 +1,4 @@
-//! What SGR does to the attributes of characters.
+//! How SGR changes the attributes of characters.
 ghost use Rattle.std.specs.Prelude.{◌≡◌, ◌<◌, ◌≤◌, map, drop, length};
 ghost use Rattle.sequences.specs.Looks.{applied_after, changed, color_len, color_of, end_attribute};
 ghost use Rattle.sequences.specs.Looks.{field_color, indexed};
@@ -60,7 +60,8 @@ fn taken(parameter: &[char], following: &[char]) -> usize
     }
 }
 
-// Returns the number of following parameters that belong to 38, 48 or 58: all of them if the kind is unknown.
+// Returns the number of following parameters that belong to 38, 48 or 58: all of them if the kind of color is
+// unknown.
 fn color_len(following: &[char]) -> usize
     ensures { result ≡ color_len (parameters_after following.now) }
 {
@@ -123,7 +124,7 @@ fn rgb(r: u32, g: u32, b: u32) -> Option<Color>
     }
 }
 
-// Returns the color at the start of some parameters, if it is of a known kind and complete.
+// Returns the color that some parameters begin with, if its kind is known and its values are valid.
 fn color_after(following: &[char]) -> Option<Color>
     ensures { result ≡ color_of (map single (parameters_after following.now)) }
 {
@@ -333,7 +334,7 @@ fn with_fields(n: u32, parameter: &[char], look: Look) -> Look
     }
 }
 
-// Returns the color of a parameter with several fields, if it is of a known kind and complete.
+// Returns the color of a parameter with several fields, if its kind is known and its values are valid.
 fn field_color(parameter: &[char]) -> Option<Color>
     ensures { result ≡ field_color (drop 1 (fields_after parameter.now)) }
 {

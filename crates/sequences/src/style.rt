@@ -6,8 +6,8 @@ use crate::look::{Look, PLAIN};
 use crate::same_look::same_look;
 use std::alloc::{AllocError, Global};
 
-/// A part of a list of characters: the parameters of a link, a semicolon and its URI. The part is empty if
-/// there is no link.
+/// A range of a list of characters: a link's parameters, a semicolon and the link's URI. The range is empty
+/// if there is no link.
 #[derive(Clone, Copy, Debug, PartialEq, Eq)]
 pub struct Link {
     pub start: usize,
@@ -17,7 +17,7 @@ pub struct Link {
 /// No link.
 pub const NO_LINK: Link = Link { start: 0, len: 0 };
 
-/// A run: the style of the characters from an index on, up to the next run.
+/// A run of characters with one style, from an index up to the start of the next run.
 #[derive(Clone, Copy, Debug, PartialEq, Eq)]
 pub struct StyleRun {
     pub start: usize,
@@ -114,7 +114,7 @@ impl StyledText {
         Ok(added)
     }
 
-    /// Removes all characters, and all links but one.
+    /// Removes all characters, and all links except `link`. Returns the new range of that link.
     pub fn clear(&mut self, link: Link) -> Link
         requires { link.start + link.len ≤ length self.old.links.items }
         ensures text { styled_of self.new ≡ [] }
@@ -131,7 +131,7 @@ impl StyledText {
         }
     }
 
-    // Returns whether characters that are appended would have a given style.
+    // Returns true only if appended characters would have the given style without a new run.
     fn ends_in(&self, look: Look, link: Link) -> bool
         ensures { result ≡ true
             → style_at self.now.links.items DEFAULT self.now.runs.items (length self.now.characters.items)
@@ -143,7 +143,7 @@ impl StyledText {
         }
     }
 
-    // Starts a run for the characters that are appended next, if one is needed.
+    // Starts a run for the characters that are appended next, if a new run is needed.
     fn start_run(&mut self, look: Look, link: Link) -> Result<(), AllocError>
         requires { link.start + link.len ≤ length self.old.links.items }
         ensures style { OnOk result (style_at self.new.links.items DEFAULT self.new.runs.items
@@ -191,7 +191,7 @@ fn has_style(run: StyleRun, look: Look, link: Link) -> bool
     }
 }
 
-// Returns whether links are at the same place, or both are empty.
+// Returns whether two links are the same range, or are both empty.
 fn same_link(link: Link, other: Link) -> bool
     ensures { result ≡ true → (links : List ℕ) → take link.len (drop link.start links)
         ≡ take other.len (drop other.start links) }

@@ -118,7 +118,7 @@ roomy list ps e = accepted_room (have_room list ps) e
 pub accepted : (b : Bool) → b ≡ true → (if b then None else Some ParagraphTooLong) ≡ None
 accepted b e = cond-true b None (Some ParagraphTooLong) e
 
--- if the advances of paragraphs have room, so do those of the first one, and those of the others
+-- if the advances of paragraphs are within the limit, so are those of the first one, and those of the others
 pub first_room : (advances : Option (List ℕ)) (p : List ℕ) (ps : List (List ℕ)) → room_refusal advances (p ∷ ps) ≡ None → HaveRoom (front_advances (length p) advances)
 first_room None p ps e = tt
 first_room (Some list) p ps e =
@@ -157,7 +157,7 @@ room-append list (p ∷ ps) qs =
 
 -- ---- the middle of a list of advances is replaced
 
--- ---- paragraphs of a text on both sides of some that are replaced
+-- ---- the paragraphs before and after those that are replaced
 module _ (rules : Rules) (width : ℕ) (left mid right : List (List ℕ)) (new : List (List ℕ)) (front inner back fresh : List ℕ)
     (in_front : length front ≡ length (concat left)) (in_mid : length inner ≡ length (concat mid)) (in_new : length fresh ≡ length (concat new)) where
   abbrev old : List ℕ
@@ -185,8 +185,8 @@ module _ (rules : Rules) (width : ℕ) (left mid right : List (List ℕ)) (new :
       ∙ take_at fresh back (length (concat new)) in_new
       ∙ sym (take_all (length (concat new)) fresh (omega (arith, in_new)))
 
-  -- the layouts of the new text are the old ones on both sides, and the fresh ones of the new paragraphs
-  -- between them
+  -- the layouts of the new text are the old layouts before and after the new paragraphs, and the fresh
+  -- layouts of the new paragraphs
   pub layouts-middle : layouts_from rules width (Some after) (left ++ (new ++ right))
       ≡ layouts_from rules width (Some old) left ++ (layouts_from rules width (Some fresh) new ++ layouts_from rules width (Some back) right)
   layouts-middle =
@@ -205,7 +205,7 @@ module _ (rules : Rules) (width : ℕ) (left mid right : List (List ℕ)) (new :
       (layouts-append rules width (Some (drop (length (concat left)) old)) mid right
       ∙ ap (λ l. layouts_from rules width (Some (drop (length (concat left)) old)) mid ++ layouts_from rules width (Some l) right) before_right)
 
-  -- if the old advances are within the limit, only the new ones in the middle matter
+  -- if the old advances are within the limit, the new ones are if and only if those in the middle are
   pub room-middle : have_room old (left ++ (mid ++ right)) ≡ true → have_room after (left ++ (new ++ right)) ≡ have_room fresh new
   room-middle has =
       let outer = and_parts (have_room old left) (have_room (drop (length (concat left)) old) (mid ++ right)) (sym (room-append old left (mid ++ right)) ∙ has) in
@@ -222,7 +222,7 @@ module _ (rules : Rules) (width : ℕ) (left mid right : List (List ℕ)) (new :
       and_true true = refl
       and_true false = refl
 
--- the advances with which a text is opened begin with those with which its first part is opened
+-- the opening advances of a prefix of a text are a prefix of the text's opening advances
 pub first_front : (is_measured : Bool) (first after : List ℕ) → front_advances (length first) (first_advances is_measured (length (first ++ after))) ≡ first_advances is_measured (length first)
 first_front false first after = refl
 first_front true first after =

@@ -1,4 +1,4 @@
--- What sums over a store's paragraphs count, and what searches by these sums find.
+-- Sums over a store's paragraphs, and searches by these sums.
 use Rattle.std.proofs.Common.{◌≡◌, ℕ, ◌+◌, ◌-◌, ◌<◌, ◌≤◌, List, [], ◌∷◌, ◌++◌, length, take, get_or, sum_by, Option, Some, None, unwrap_or, refl, sym, ap, ◌∙◌, inl, inr, arith}
 use Rattle.std.specs.List.{concat, enumerate_from, slice_get}
 use Rattle.std.specs.Option.{option_map}
@@ -133,8 +133,8 @@ IsBackBorder-end kept to count chars lines count-is chars-is lines-is at_end =
       after = λ more. absurd (omega arith);
     }
 
--- A position in the text is at most the store's total number of characters. The sums up to the end of a found
--- paragraph are at most the store's sums.
+-- No position in the text exceeds the store's total number of characters. The sums up to the end of a found
+-- paragraph do not exceed the store's sums.
 pub pos_within : (kept : List Layout) (pos : ℕ) → pos ≤ length (text_of kept) → (pos ≡ 0 → ⊥) → pos - 1 < sum_by chars_of kept
 pos_within kept pos within some = omega (arith, length-text kept, some)
 

@@ -38,7 +38,7 @@ chained f (Some x) y is = (x, refl, is)
 end_within : (n : ℕ) (line : Visual) → (line_end n line).column ≤ line.columns
 end_within n line = elim (is_odd line.base) as (λ b. (if b then 0 else line.columns) ≤ line.columns) [ true ↦ omega arith | false ↦ omega arith ]
 
--- the same bound holds for a choice between two carets on one line
+-- a bound on the columns of two carets on a line also holds for a choice between the two
 either : (b : Bool) (x y : Caret) (n width : ℕ) → x.line ≡ n → y.line ≡ n → (b ≡ true → x.column ≤ width) → (b ≡ false → y.column ≤ width)
     → let caret : Caret = if b then x else y in (caret.line ≡ n) × (caret.column ≤ width)
 either true x y n width one other here there = (one, here refl)

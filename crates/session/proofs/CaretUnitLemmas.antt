@@ -22,7 +22,7 @@ module _ (line : Visual) where
   abbrev pub level_at : ℕ → ℕ
   level_at k = get_or line.levels k 0
 
-  -- whether a character is at another level than the given one
+  -- whether the level of a character differs from the given one
   abbrev is_other : ℕ → ℕ → Bool
   is_other level j = not (level_at j == level)
 
@@ -87,7 +87,7 @@ module _ (line : Visual) where
               (λ c above below. not_other (level_at k) c (in_run c (omega arith) (omega (arith, run_after))))
         ])
 
--- ---- how the characters of a level run follow each other
+-- ---- the visual order of the characters in a level run
 
 -- whether the characters of each run at an even level are next to each other from left to right
 abbrev pub EvenAdjoins : Visual → Type 0
@@ -316,7 +316,7 @@ module _ (line : Visual) (ordered : IsOrdered line) (start : ℕ) (cluster : Clu
       between_rises line (from_start k) (suc j) (to_end k) (omega (arith, member_from j is)) (member_to j is) (omega (arith, end_within, ordered.text)),
     )
 
-    -- no columns of the unit follow those of its last character
+    -- the columns of the unit end with those of its last character that takes columns
     same_wide : (m : ℕ) → k ≤ m → IsLast (takes_columns line) (to_end k) m → wide (to_end k) ≡ wide (suc m)
     same_wide m after_k last =
         between_same line (from_start k) (suc m) (to_end k) (omega (arith, start_first.to, after_k)) last.below (omega (arith, end_within, ordered.text))

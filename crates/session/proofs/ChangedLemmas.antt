@@ -1,4 +1,4 @@
--- How many lines of some paragraphs are the same as those of others, from the start and from the end.
+-- How many lines at the start and at the end of two lists of paragraphs are the same.
 use Rattle.std.proofs.Common.{◌≡◌, ℕ, ◌+◌, ◌-◌, ◌<◌, ◌≤◌, ◌⊎◌, Bool, true, false, List, [], ◌∷◌, ◌++◌, length, take, drop, get_or, Some, None, refl, sym, ap, ap₂, subst, ◌∙◌, inl, inr, arith}
 use Rattle.std.specs.Prelude.{option_map, unwrap_or}
 use Rattle.std.specs.List.{slice_get}
@@ -21,7 +21,7 @@ use Rattle.session.proofs.MatchLemmas.{end_before, end_stops, start_after, start
 abbrev is_first : Visual → Bool
 is_first v = v.is_first
 
--- only the first line of a paragraph is marked as one
+-- only the first line of a paragraph is marked as its first line
 first_line : (l : Layout) → IsPart is_first (visuals l)
 first_line l k x is = elim (slice_get_cases l.lines k).1 [
   | inl found ↦
@@ -56,7 +56,7 @@ one_more ks i l below item =
     ap lines_in (take_more ks i l below ∙ ap (λ (x : Layout). take i ks ++ x ∷ []) item) ∙ flat_map-append visuals (take i ks) (l ∷ [])
     ∙ ap (λ vs. lines_in (take i ks) ++ vs) (append-nil (visuals l))
 
--- lists of which all items match at an end are the same
+-- if all items of two lists match at the start or at the end, the lists are equal
 whole_start : {A : Type 0} (xs ys : List A) (k : ℕ) → length xs ≤ k → length ys ≤ k → MatchAtStart xs ys k → xs ≡ ys
 whole_start xs ys k x y m = sym (take_all k xs x) ∙ m.same ∙ take_all k ys y
 

@@ -25,7 +25,7 @@ pub no_word : (kept : List Layout) (pos : ℕ) → length (text_of kept) ≤ pos
 no_word kept pos past = sym (cond-true (nat_le (length (text_of kept)) pos) None _ (le-leb (length (text_of kept)) pos past))
 
 module _ (kept : List Layout) (pos : ℕ) (found : Found) (f : Finds chars_of chars_of lines_of kept pos found) (l : Layout) (read : Some l ≡ slice_get kept found.index) (lined : All IsLined kept) where
-  -- the result of a function of the start and the text of the paragraph that contains the position, if there is one
+  -- a function applied to the start and the text of the paragraph that contains `pos`; `None` past the end
   abbrev of_paragraph : {A : Type 0} → (ℕ → List ℕ → Option A) → Option A
   of_paragraph of =
       let i = count_to pos (paragraph_starts kept) - 1 in
@@ -34,7 +34,7 @@ module _ (kept : List Layout) (pos : ℕ) (found : Found) (f : Finds chars_of ch
   pub cluster-fits : (total n : ℕ) → total ≡ sum_by chars_of kept → n ≤ length l.text → pos - found.rest + n ≤ total
   cluster-fits total n is few = omega (arith, is, few, f.rest, sum_whole chars_of kept pos found f chars_of, ap chars_of (item_read chars_of kept pos found f l read))
 
-  -- for the paragraph that was found, the function has the same result as for the paragraph that contains the position
+  -- applying the function to the found paragraph gives this result
   read-in : {A : Type 0} (of : ℕ → List ℕ → Option A) → pos < length (text_of kept)
       → of (pos - found.rest) l.text ≡ of_paragraph of
   read-in of within =

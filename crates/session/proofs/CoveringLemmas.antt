@@ -80,7 +80,7 @@ module _ (line : Visual) where
       let at : k + (n - k) ≡ n = omega arith in
       subst (λ i. columns_between line j k ≤ columns_between line j i) at (rise j k (n - k) order (omega arith))
 
-  -- a character of a range covers a given column of the range
+  -- each column of a range of characters is covered by one of these characters
   pub between_at : (j d o : ℕ) → j + d ≤ length line.text → o < columns_between line j (j + d)
       → (k : ℕ) × (j ≤ k) × (k < j + d) × (columns_between line j k ≤ o) × (o < columns_between line j (suc k))
   between_at j zero o within below = absurd (omega (arith, below, none_between j, (let n : j + 0 ≡ j = omega arith in ap (columns_between line j) n)))
@@ -139,7 +139,7 @@ module _ (line : Visual) where
       (λ c above below. le-ltb column (columns_left line (c + 1)) (omega (arith, past, left_rises (c + 1) (length line.vtol) (omega arith))))
 
   module _ (ordered : IsOrdered line) where
-    -- the columns of a shown character are to the right of those to its left
+    -- the right edge of a shown character is its left edge plus its width
     pub left_next : (k : ℕ) → k < length line.levels → columns_left line (get_or line.ltov k 0 + 1) ≡ columns_left line (get_or line.ltov k 0) + width_at k
     left_next k within =
         let place : ℕ = get_or line.ltov k 0 in

@@ -148,7 +148,7 @@ AreSums-splice kept new front back total total_2 f b rise total-is total_2-is =
 
 -- ---- the advances of the paragraphs
 
--- paragraphs have as many advances as characters
+-- in the list of all advances, each paragraph starts at the same index as in the text
 pub listed_starts : (rules : Rules) (width : ℕ) (list : List ℕ) (pars : List (List ℕ)) (i : ℕ) → length list ≡ length (concat pars)
     → start_of (advance_lists (layouts_from rules width (Some list) pars)) i ≡ start_of pars i
 listed_starts rules width list [] zero each = refl
@@ -184,7 +184,7 @@ given_each : (is_measured : Bool) (list text : List ℕ) → (is_measured ≡ tr
 given_each false list text each = tt
 given_each true list text each = each refl
 
--- splicing replaces the layouts in the middle of a text with the new ones
+-- `splice` replaces the layouts in the middle of a list with the new ones
 spliced_layouts : (left mid right new : List Layout) (first last : ℕ) → first ≡ length left → last ≡ length left + length mid
     → splice (left ++ (mid ++ right)) first last new ≡ left ++ (new ++ right)
 spliced_layouts left mid right new first last first-is last-is =
@@ -330,7 +330,7 @@ module _ (law : ParagraphsArePieces) (few : LinesAreFew) (engine : Engine) (widt
     mid_sizes : length (concat (slice_range (advance_lists kept) front.index back.index)) ≡ length (concat (slice_range (pars_of kept) front.index back.index))
     mid_sizes = omega (arith, upto_sizes (advance_lists kept), upto_sizes (pars_of kept), list_starts front.index, list_starts back.index)
 
-    -- the region has as many advances as characters
+    -- the region has one advance for each of its characters
     region_sizes : length region_list ≡ length region
     region_sizes =
         let after : length (replaced list (replacing pos count zeros)) ≡ length list - count + length zeros = length-replaced_text list zeros pos count (omega (arith, list_within)) in
@@ -361,7 +361,7 @@ module _ (law : ParagraphsArePieces) (few : LinesAreFew) (engine : Engine) (widt
         length-replaced_text list zeros pos count list_within ∙ omega (arith, each, length-replicate {A = ℕ} (length piece) 0)
         ∙ sym (length-replaced_text (text_of kept) piece pos count within)
 
-    -- each paragraph has as many advances as characters
+    -- each paragraph has one advance for each of its characters
     each_size : (i : ℕ) → length (get_or (advance_lists kept) i []) ≡ length (get_or (pars_of kept) i [])
     each_size i = elim (cases_lt i (length (pars_of kept))) [
       | inl some ↦ omega (arith, start_of-more (pars_of kept) i [] some, start_of-more (advance_lists kept) i [] (omega (arith, some, list_number)), list_starts i, list_starts (i + 1))
@@ -444,7 +444,7 @@ module _ (law : ParagraphsArePieces) (few : LinesAreFew) (engine : Engine) (widt
       ∙ middle_room rules width left mid right (paragraphs (cut_by rules) region) left_list mid_list right_list region_list front.index back.index left_number upto_number
       is_measured left_sizes mid_sizes new_sizes has
 
-  -- if the new text is not too long, an edit is refused only if a paragraph of the edited region is
+  -- if the new text is not too long, an edit is refused for the same reason as the paragraphs of its region
   pub refusal-by_region : length (text_of kept) - count + length piece ≤ TEXT_LIMIT → refusal (cut_by rules) advances (text_of kept) edit ≡ paragraphs_refusal (cut_by rules) region_advances region
   refusal-by_region short =
       let text = replaced (text_of kept) edit in
@@ -555,7 +555,7 @@ module _ (law : ParagraphsArePieces) (few : LinesAreFew) (engine : Engine) (widt
           counts = subst (λ n. LaysOutAtMost n engine new_engine) length-region counts;
         }
 
--- what an edit ensures follows from what its last call ensures
+-- the postcondition of an edit follows from that of its last call
 pub ends_ok : (P : List Layout → Damage → Type 0) (r : Result Damage EditFault) (now made : List Layout) (d : Damage) → OnOk r (now ≡ made) → IfOk r (λ damage. damage ≡ d) → P made d → IfOk r (P now)
 ends_ok P (Ok x) now made d h e p = subst (λ ks. P ks x) (sym h) (subst (P made) (sym e) p)
 ends_ok P (Err x) now made d h e p = tt

@@ -20,7 +20,7 @@ pub record IsLast (test : ℕ → Bool) (n b : ℕ) : Type 0 where
   pub fails : (c : ℕ) → b < c → c < n → test c ≡ false
 
 module _ (test : ℕ → Bool) where
-  -- numbers that fail are skipped
+  -- the search for the first number that passes skips numbers that fail
   skipped : (a d m : ℕ) → ((c : ℕ) → a ≤ c → c < a + d → test c ≡ false) → least test a (d + m) ≡ least test (a + d) m
   skipped a zero m fails =
       let n : 0 + m ≡ m = omega arith in
@@ -88,7 +88,7 @@ module _ (test : ℕ → Bool) where
         | inr last ↦ ap (λ (o : Option ℕ). unwrap_or o end) (least_none low count (λ c above under. is.fails c above (omega arith))) ∙ omega arith
       ]
 
-  -- the same holds for the last number below a bound
+  -- the search for the last number that passes also skips numbers that fail
   pub greatest_over : (a d : ℕ) → ((c : ℕ) → a ≤ c → c < a + d → test c ≡ false) → greatest test (a + d) ≡ greatest test a
   greatest_over a zero fails = let n : a + 0 ≡ a = omega arith in ap (greatest test) n
   greatest_over a (suc d) fails =

@@ -47,7 +47,7 @@ module _ (is_cut : ℕ → ℕ → Bool) where
       → is_within_limit is_cut text ≡ (b && is_within_limit is_cut after)
   first_tested text first after split b e = ap are_within split ∙ ap (λ c. c && is_within_limit is_cut after) e
 
-  -- if the first paragraph is not too long, the text is within the limit if and only if the other paragraphs are
+  -- if the first paragraph is not too long, the text is within the limit if and only if the others are
   pub within_after : (text first after : List ℕ) → paragraphs is_cut text ≡ first ∷ paragraphs is_cut after → not (nat_le (length first) PARAGRAPH_LIMIT) ≡ false
       → is_within_limit is_cut text ≡ is_within_limit is_cut after
   within_after text first after split short = first_tested text first after split true (not-false _ short)
@@ -63,13 +63,13 @@ module _ (is_cut : ℕ → ℕ → Bool) where
       let parts = ends_parts [] text n ends.front in
       ends.splits.2 ∙ ap₂ (λ p q. p ∷ paragraphs is_cut q) (sym parts.0 ∙ ap chars (sym first-is)) (sym parts.1 ∙ ap chars (sym after-is))
 
-  -- a text without a paragraph boundary is within the limit if it is no longer than a paragraph may be
+  -- a text without a paragraph boundary is within the limit if and only if its length is
   pub within_uncut : (text : List ℕ) → SplitsAt is_cut text None → is_within_limit is_cut text ≡ nat_le (length text) PARAGRAPH_LIMIT
   within_uncut [] split = refl
   within_uncut (c ∷ text) split = ap are_within (split (omega arith)) ∙ and-true (nat_le (length (c ∷ text)) PARAGRAPH_LIMIT)
 
--- if the first paragraph of a text is followed by the others, it is one paragraph, and its length and theirs
--- add up to that of the text
+-- if a text is split after its first paragraph, the first part is one paragraph, and the lengths of the two
+-- parts add up to that of the text
 module _ (law : ParagraphsArePieces) (rules : Rules) (text first after : List ℕ) (split : paragraphs (cut_by rules) text ≡ first ∷ paragraphs (cut_by rules) after) where
   pub first_paragraph : is_within_limit (cut_by rules) text ≡ true → IsParagraph rules first
   first_paragraph within = record {
@@ -102,8 +102,8 @@ module _ (law : ParagraphsArePieces) (rules : Rules) (text : List ℕ) (within :
     within = (within_parts (cut_by rules) text text [] (split some) within).0;
   }
 
--- If the layouts so far, followed by those of the remaining text, are all layouts, this stays true after one
--- more paragraph is laid out. The rest has its own advances, if the text is measured.
+-- The layouts so far, followed by those of the remaining text, are still all layouts after one more paragraph
+-- has been laid out. The remaining text has its own advances, if the text is measured.
 module _ (rules : Rules) (width : ℕ) (all : List Layout) (rest : List ℕ) (advances : Option (List ℕ)) (kept : List Layout)
     (so_far : kept ++ layouts_from rules width advances (paragraphs (cut_by rules) rest) ≡ all) where
   pub layouts_more : (first after : List ℕ) (others : Option (List ℕ)) (more : List Layout) (one : Layout)
@@ -125,7 +125,7 @@ module _ (rules : Rules) (width : ℕ) (all : List Layout) (rest : List ℕ) (ad
   pub layouts_none : rest ≡ [] → kept ≡ all
   layouts_none none = sym (append-nil kept) ∙ ap (λ r. kept ++ layouts_from rules width advances (paragraphs (cut_by rules) r)) (sym none) ∙ so_far
 
--- the first advances, as many as the text has characters, are all its advances
+-- if a text of n characters has an advance for each character, the first n advances are all of them
 pub front_all : (text : List ℕ) (advances : Option (List ℕ)) → AreForEach advances text → front_advances (length text) advances ≡ advances
 front_all text None each = refl
 front_all text (Some list) each = ap Some (take_all (length text) list (omega (arith, each)))

@@ -1,4 +1,4 @@
--- What holds for each line of a text that is laid out: its place, its order and its clusters.
+-- Facts about each line of a laid-out text: its place, its order and its clusters.
 use Rattle.std.proofs.Common.{◌≡◌, ℕ, ◌+◌, ◌-◌, ◌<◌, ◌≤◌, Bool, true, false, List, [], ◌∷◌, ◌++◌, length, map, get_or, sum_by, Option, None, Some, refl, sym, ap, subst, ◌∙◌, ◌⊎◌, inl, inr, arith}
 use Rattle.std.specs.List.{concat, slice_get, All}
 use Rattle.std.specs.Option.{option_map}
@@ -42,7 +42,7 @@ use Rattle.session.proofs.PlaceLemmas.{count_point, place-is, start_read, starts
 use Rattle.session.proofs.UnitEdgeLemmas.{IsLineOf, IsPlaced}
 use Rattle.session.proofs.UnitTileLemmas.{OddReads}
 
--- ---- the paragraph that has a character or a line
+-- ---- the paragraph that contains a character or a line
 
 abbrev found_in : List Layout → ℕ → Found
 found_in before rest = record {
@@ -55,7 +55,8 @@ found_in before rest = record {
   visits = 0;
 }
 
--- the paragraph that contains unit n of a text, the paragraphs before and after it, and the number of the unit in it
+-- the paragraph that contains unit n of a text, the paragraphs before and after it, and the index of the unit
+-- in the paragraph
 record IsIn (size : Layout → ℕ) (kept : List Layout) (n : ℕ) : Type 0 where
   before : List Layout
   item : Layout
@@ -350,8 +351,8 @@ marks_stay rules pieces (inr none) =
 abbrev IsKnown : Rules → List ℕ → Type 0
 IsKnown rules p = (0 < length p) × ((rules.options.reorder_clusters ≡ true) ⊎ MarksStay rules p)
 
--- if Q implies P for each paragraph's layout, with any advances, and Q holds for all paragraphs of a text, P holds for all
--- its layouts
+-- if Q for a paragraph implies P for its layout with any advances, and Q holds for all paragraphs of a text,
+-- P holds for all layouts of the text
 each_layout : (Q : List ℕ → Type 0) (P : Layout → Type 0) (rules : Rules) (width : ℕ) (advances : Option (List ℕ)) (ps : List (List ℕ)) → All Q ps
     → ((own : Option (List ℕ)) (p : List ℕ) → (advances ≡ None → own ≡ None) → Q p → P (layout_of (with_advances rules own) width p))
     → All P (layouts_from (with_advances rules None) width advances ps)

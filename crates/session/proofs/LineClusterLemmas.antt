@@ -47,7 +47,7 @@ map_len : (g : ℕ → List ℕ) (line : Option Visual) (m : ℕ) → option_map
 map_len g (Some line) m is = ap (option_map g) is
 map_len g None m is = ap (option_map g) is
 
--- the clusters that a search for line n leads to are the clusters of this line
+-- the clusters that are computed in the paragraph found by a search for line n are the clusters of line n
 module _ (kept : List Layout) (n : ℕ) (found : Found) (f : Finds lines_of chars_of lines_of kept n found) (l : Layout) (read : Some l ≡ slice_get kept found.index) (lined : IsLined l) where
   pub clusters_found : Some (ends_in (cluster_ends l.text) (get_or (map begins l.lines) found.rest 0)
       (end_of (length l.text) (map begins l.lines) found.rest - get_or (map begins l.lines) found.rest 0)) ≡ line_clusters kept n

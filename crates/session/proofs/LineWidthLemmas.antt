@@ -1,4 +1,4 @@
--- The columns of a line are those of its characters in visual order.
+-- The width of a line is the sum of its characters' widths in visual order.
 use Rattle.std.proofs.Common.{◌≡◌, ℕ, zero, suc, ◌+◌, ◌-◌, ◌<◌, ◌≤◌, List, length, take, get_or, sum, sum_by, refl, sym, ap, ◌∙◌, inl, inr, arith}
 use Rattle.std.specs.List.{remove}
 use Rattle.std.proofs.lemmas.Bool.{cases_eq, cases_lt}
@@ -14,12 +14,12 @@ use Rattle.lines.specs.Ordered.{IsOrdered}
 use Rattle.lines.specs.Visual.{Visual}
 use Rattle.session.proofs.CoveringLemmas.{width_of}
 
--- the sum of a number for each number below n
+-- the sum of f k over all k below n
 abbrev sum_below : (ℕ → ℕ) → ℕ → ℕ
 sum_below f zero = 0
 sum_below f (suc n) = sum_below f n + f n
 
--- each number below n is at some index of a list
+-- whether a list contains each number below n
 abbrev HasEach : List ℕ → ℕ → Type 0
 HasEach xs n = (k : ℕ) → k < n → (i : ℕ) × (i < length xs) × (get_or xs i 0 ≡ k)
 

@@ -83,7 +83,8 @@ module _ {A : Type 0} (is_marked : A → Bool) where
         ];
       }
 
-      -- both parts have more items than match: otherwise a first item would be the same as one that is not first
+      -- both parts have more than k items: if all items of one part matched, its first item would equal an
+      -- item that is not the first of the other part
       both : MatchAtEnd xs ys k → (k < length xs) × (k < length ys)
       both m = elim (cases_lt k (length xs)) [
         | inl in_xs ↦ elim (cases_lt k (length ys)) [

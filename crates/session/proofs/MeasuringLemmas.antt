@@ -12,7 +12,7 @@ use Rattle.session.specs.Edits.{have_room}
 use Rattle.session.specs.Kept.{layouts_from, pars_of, IsFresh}
 use Rattle.session.proofs.BorderLemmas.{text_read}
 
--- ---- some advances of a list
+-- ---- a range of a list of advances
 
 module _ (list : List ℕ) (from len : ℕ) (within : from + len ≤ length list) where
   abbrev part : List ℕ
@@ -53,8 +53,8 @@ slice_more pars i end below within =
 slice_none : (pars : List (List ℕ)) (i end : ℕ) → end ≤ i → slice_range pars i end ≡ []
 slice_none pars i end past = let n : end - i ≡ 0 = omega arith in ap (λ m. take m (drop i pars)) n
 
--- The advances from `from` on are those of the paragraphs from `i` on. All paragraphs are within the limit if and only if
--- these are.
+-- The advances from `from` on are those of the paragraphs from `i` on. All paragraphs are within the limit if
+-- and only if the paragraphs from `i` on are.
 pub record HavePassed (pars : List (List ℕ)) (list : List ℕ) (first end i from : ℕ) : Type 0 where
   pub low : first ≤ i
   pub size : from + length (concat (slice_range pars i end)) ≡ length list
@@ -100,7 +100,7 @@ module _ (pars : List (List ℕ)) (list : List ℕ) (first end i from : ℕ) (wi
 pub passed_all : (pars : List (List ℕ)) (list : List ℕ) (first end i from : ℕ) → HavePassed pars list first end i from → end ≤ i → true ≡ have_room list (slice_range pars first end)
 passed_all pars list first end i from passed all = sym (passed.room ∙ ap (have_room (drop from list)) (slice_none pars i end all))
 
--- the layouts so far, followed by those of the other paragraphs, are all layouts
+-- the layouts so far, followed by those of the remaining paragraphs, are the layouts of all paragraphs
 pub record AreMade (rules : Rules) (width : ℕ) (pars : List (List ℕ)) (list : List ℕ) (first end i from : ℕ) (made : List Layout) : Type 0 where
   pub low : first ≤ i
   pub size : from + length (concat (slice_range pars i end)) ≡ length list
@@ -185,17 +185,17 @@ read_some kept i below none = elim (slice_get_cases kept i).1 [
   | inr past ↦ absurd (omega (arith, past.0, below))
 ]
 
--- there are as many texts as layouts
+-- an end of a range of layouts is also within the list of their texts
 pub as_many : (kept : List Layout) (end : ℕ) → end ≤ length kept → end ≤ length (pars_of kept)
 as_many kept end within = omega (arith, within, length-map kept (λ (l : Layout). l.text))
 
--- the characters of a range of paragraphs are those of its first paragraph and those of the others
+-- the length of a range of paragraphs is the length of its first paragraph plus the length of the others
 pub rest_sizes : (pars : List (List ℕ)) (i end : ℕ) → i < end → end ≤ length pars
     → length (concat (slice_range pars i end)) ≡ length (get_or pars i []) + length (concat (slice_range pars (i + 1) end))
 rest_sizes pars i end below within =
     ap (λ ps. length (concat ps)) (slice_more pars i end below within) ∙ length-append (get_or pars i []) (concat (slice_range pars (i + 1) end))
 
--- one more paragraph of n characters is filled, before `rest` more characters
+-- one more paragraph of n characters is filled, and `rest` characters remain
 module _ (start now next : Engine) (n rest all : ℕ) (analysed : analysed_of now ≡ analysed_of start)
     (filled : filled_of start ≤ filled_of now) (filled_most : filled_of now + (n + rest) ≤ filled_of start + all)
     (written : written_of start ≤ written_of now) (written_most : written_of now + (n + rest) ≤ written_of start + all) (more : FillsAtMost n now next) where

@@ -1,4 +1,5 @@
--- Repeated steps reach each boundary in their direction, and what holds for the steps on a line holds for those in a text.
+-- Repeated steps reach each boundary in their direction. The theorems about the steps on one line are then
+-- stated for all lines of a text.
 use Rattle.std.proofs.Common.{◌≡◌, ℕ, zero, suc, ◌-◌, ◌≤◌, List, Option, Some, None, refl, sym, ap, subst, ◌⊎◌, ◌∙◌, inl, inr, arith}
 use Rattle.std.specs.Option.{option_and_then}
 use Rattle.lines.specs.Layouts.{Layout, Rules}
@@ -70,7 +71,7 @@ module _ (rules : Rules) (kept : List Layout) (line : Visual) (start : ℕ) (dir
             ]
       ]
 
--- the same holds for each line of a text
+-- `StepsAreNearest` holds for a text if `IsLineOf` holds for each of its lines
 pub steps_are_nearest : (rules : Rules) (kept : List Layout) → AllClusters kept
     → ((n : ℕ) (line : Visual) (start : ℕ) → line_at kept n ≡ Some (line, start) → IsLineOf kept n line start) → StepsAreNearest rules kept
 steps_are_nearest rules kept clusters lines =

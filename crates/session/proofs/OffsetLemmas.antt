@@ -46,7 +46,7 @@ module _ (encoding : Encoding) where
   least_length [] = omega arith
   least_length (c ∷ cs) = omega (arith, sum_by-cons (size_in encoding) c cs, some_in_each encoding c, least_length cs)
 
-  -- in a text with as many units as characters, each character has one unit
+  -- if the number of units of a text is its number of characters, the same holds for each prefix
   pub same_front : (text : List ℕ) (count : ℕ) → length_in encoding text ≡ length text → count ≤ length text → length_in encoding (take count text) ≡ count
   same_front text count same within =
       omega (
@@ -74,7 +74,7 @@ module _ (encoding : Encoding) where
         within = some_in_each encoding c;
       }
 
-  -- the units of a text are those of its paragraphs
+  -- the number of units of a text is the sum over its paragraphs
   pub length-units : (kept : List Layout) → length_in encoding (text_of kept) ≡ sum_by (units_of encoding) kept
   length-units [] = refl
   length-units (l ∷ kept) =
@@ -241,7 +241,7 @@ length-part kept pos count =
       ap (length_in Utf8) part,
     )
 
--- a text has as many units as characters if each character has one unit
+-- if each character of a text has one unit, the number of units is the number of characters
 one_each : (encoding : Encoding) (text : List ℕ) → ((k : ℕ) → k < length text → size_in encoding (get_or text k 0) ≡ 1) → length_in encoding text ≡ length text
 one_each encoding [] one = refl
 one_each encoding (c ∷ text) one =

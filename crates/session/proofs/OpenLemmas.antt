@@ -110,7 +110,7 @@ module _ (law : ParagraphsArePieces) (few : LinesAreFew) (rules : Rules) (width 
         utf16 = units-laid len_utf16 utf16_few;
       }
 
--- if the totals of all layouts of a list fit, so do those of the first ones
+-- if the totals of a list of layouts fit, so do those of a prefix of the list
 sum-front : (size : Layout → ℕ) (front more all : List Layout) → front ++ more ≡ all → sum_by size all < 2 ^ 64 → sum_by size front < 2 ^ 64
 sum-front size front more all parts fits = omega (arith, fits, sum_by-append size front more, ap (sum_by size) parts)
 
@@ -122,7 +122,7 @@ TotalsFit-front front more all parts fits = record {
   utf16 = sum-front (units_of Utf16) front more all parts fits.utf16;
 }
 
--- the layouts of a text that is one paragraph
+-- a text that is one paragraph has one layout
 pub layouts_one : (is_measured : Bool) (rules : Rules) (width : ℕ) (text : List ℕ) → paragraphs (cut_by rules) text ≡ text ∷ []
     → layouts_from rules width (first_advances is_measured (length text)) (paragraphs (cut_by rules) text)
     ≡ layout_of (with_advances rules (first_advances is_measured (length text))) width text ∷ []
@@ -130,8 +130,8 @@ layouts_one is_measured rules width text one =
     let first = first_advances is_measured (length text) in
     ap (layouts_from rules width first) one ∙ ap (λ (a : Option (List ℕ)). layout_of (with_advances rules a) width text ∷ []) (front_all text first (first_each is_measured text))
 
--- if the layouts in a store, those that are not in it yet and those of the remaining text are all layouts, this
--- stays true after one more paragraph is laid out
+-- the stored layouts, the pending ones and those of the remaining text still make up all layouts after one
+-- more paragraph has been laid out
 pub layouts_stored : (is_measured : Bool) (rules : Rules) (width : ℕ) (all : List Layout) (rest first after : List ℕ) (stored new more : List Layout) (one : Layout)
     → rest ≡ first ++ after → paragraphs (cut_by rules) rest ≡ first ∷ paragraphs (cut_by rules) after
     → one ≡ layout_of (with_advances rules (first_advances is_measured (length first))) width first → more ≡ new ++ one ∷ []

@@ -1,5 +1,5 @@
--- The paragraphs that are compared in a loop: those from one index to another with new ones, or all with
--- themselves at another width.
+-- The pairs of paragraphs that a loop compares: a range of old paragraphs with new ones, or all paragraphs
+-- with themselves at another width.
 use Rattle.std.proofs.Common.{◌≡◌, ℕ, zero, suc, ◌+◌, ◌-◌, ◌<◌, ◌≤◌, ◌⊎◌, true, false, List, [], ◌∷◌, length, map, min, take, drop, get_or, sum_by, Some, Option, unwrap_or, refl, sym, ap, subst, ◌∙◌, inl, inr, arith}
 use Rattle.std.specs.Prelude.{not}
 use Rattle.std.specs.List.{All, AllZip, slice_get, slice_range}
@@ -18,7 +18,7 @@ use Rattle.session.specs.declared.changed.Matching.{Matching}
 use Rattle.session.proofs.BorderLemmas.{length-lines, lines_of}
 use Rattle.session.proofs.ChangedLemmas.{both_parts, end_goes_on, end_is_found, end_within, start_goes_on, start_is_found, start_within, EndSoFar, StartSoFar}
 
--- the item that was read at an index is the item at this index
+-- if `slice_get` reads an item at an index, `get_or` returns the same item
 item : (ks : List Layout) (i : ℕ) (l : Layout) → Some l ≡ slice_get ks i → get_or ks i l ≡ l
 item ks i l read = sym (unwrap_or-slice_get ks i l) ∙ ap (λ o. unwrap_or o l) (sym read)
 

@@ -47,7 +47,7 @@ length-lines_from place (l ∷ kept) =
     ∙ ap₂ (λ n m. n + m) (length-map l.lines (λ line. place + line.start) ∙ sym (length-visuals l)) (length-lines_from (place + length l.text) kept)
     ∙ sym (length-append (visuals l) (lines_in kept))
 
--- the line starts of a text are those before, in and after the paragraph that a search found
+-- the line starts of a text are those before the found paragraph, those in it, and those after it
 starts_whole : (size : Layout → ℕ) (kept : List Layout) (n : ℕ) (found : Found) (f : Finds size chars_of lines_of kept n found)
     → line_starts kept ≡ lines_from 0 f.before ++ (starts_at (sum_by chars_of f.before) f.item ++ lines_from (sum_by chars_of f.before + chars_of f.item) f.after)
 starts_whole size kept n found f =
@@ -337,7 +337,7 @@ last_below pos starts k below = elim (cases_lt k (length starts)) [
   | inr past ↦ omega (arith, get_or-eq_default starts 0 past)
 ]
 
--- the place after the last character is on the same line as that character, one character further
+-- the end of the text is on the line of the last character, and its offset is greater by 1
 pub place_after : (kept : List Layout) (pos : ℕ) → All IsLined kept → pos + 1 ≡ length (text_of kept) → (last : Place) → last ≡ place_in kept pos
     → let here : Place = record { paragraph = last.paragraph; line = last.line; offset = last.offset + 1 } in here ≡ place_in kept (length (text_of kept))
 place_after kept pos lined is last last-is =
@@ -358,7 +358,7 @@ pub text_append : (xs ys : List Layout) → text_of (xs ++ ys) ≡ text_of xs ++
 text_append [] ys = refl
 text_append (x ∷ xs) ys = ap (λ more. x.text ++ more) (text_append xs ys) ∙ sym (append_assoc x.text (text_of xs) (text_of ys))
 
--- a character that is read from the found paragraph is the text's character at the searched position
+-- the character at `rest` in the found paragraph is the text's character at the searched position
 pub char_read : (kept : List Layout) (pos : ℕ) (found : Found) → Finds chars_of chars_of lines_of kept pos found → (l : Layout) → Some l ≡ slice_get kept found.index
     → (found.rest < length l.text) × (get_or l.text found.rest 0 ≡ get_or (text_of kept) pos 0)
 char_read kept pos found f l read =

@@ -113,7 +113,8 @@ lines_begin kept first found f =
     ap (λ ks. drop found.rest (lines_in ks)) there
     ∙ sym (ap₂ (λ (n : ℕ) (vs : List Visual). drop n vs) (sym place) whole ∙ drop-append-add (lines_in f.before) (lines_in (f.item ∷ f.after)) found.rest)
 
--- a range of two lists that starts in the first list is a part of that list, followed by a part of the second
+-- a range of the concatenation of two lists that starts in the first list is a range of the first list,
+-- followed by a prefix of the second
 pub wanted_parts : {A : Type 0} (xs ys : List A) (from left part : ℕ) → from ≤ length xs → part ≡ min left (length xs - from)
     → take left (drop from (xs ++ ys)) ≡ take part (drop from xs) ++ take (left - part) ys
 wanted_parts xs ys from left part within part-is =
@@ -132,8 +133,8 @@ wanted_parts xs ys from left part within part-is =
           ∙ ap (λ n. take n (drop from xs)) all ∙ sym (append-nil (take part (drop from xs))) ∙ ap (λ n. take part (drop from xs) ++ take n ys) (sym none)
     ]
 
--- if the lines written so far, followed by the rest of the range, are the whole range, this stays true after
--- the lines of one more paragraph are written
+-- the written lines and the remaining ones still make up the whole range after the lines of one more
+-- paragraph have been written
 pub front_more : (kept : List Layout) (i from left part : ℕ) (l : Layout) → Some l ≡ slice_get kept i → from ≤ length l.lines → part ≡ min left (length l.lines - from)
     → (front whole : List Visual) → front ++ take left (drop from (lines_in (drop i kept))) ≡ whole
     → (front ++ take part (drop from (visuals l))) ++ take (left - part) (lines_in (drop (i + 1) kept)) ≡ whole

@@ -82,7 +82,7 @@ module _ (kept : List Layout) (pos at stop : ℕ) (begun : pos ≤ at) (more : a
 pub part_there : (kept : List Layout) (at count : ℕ) → at + count ≤ length (text_of kept) → None ≡ text_part kept at count → ⊥
 part_there kept at count within none = let wrong = none ∙ part_within kept at count within in cc wrong
 
--- a range is what was read up to a position, followed by the rest
+-- a range consists of the characters that were read up to a position and the remaining characters
 pub all_parts : (kept : List Layout) (pos at stop : ℕ) → pos ≤ at → at ≤ stop
     → slice_range (text_of kept) pos stop ≡ slice_range (text_of kept) pos at ++ take (stop - at) (drop at (text_of kept))
 all_parts kept pos at stop begun more =

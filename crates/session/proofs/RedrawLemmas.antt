@@ -1,4 +1,4 @@
--- The lines that an edit and a call that sets advances have replaced together.
+-- The lines that are replaced by an edit followed by a call that sets advances.
 use Rattle.std.proofs.Common.{◌≡◌, ℕ, ◌+◌, List, ◌++◌, length, take, drop, sym, ap, ap₂, ◌∙◌, arith}
 use Rattle.std.specs.List.{slice_range}
 use Rattle.std.proofs.lemmas.List.{length-append, take-append-drop}
@@ -11,7 +11,7 @@ use Rattle.session.specs.Kept.{lines_in}
 use Rattle.session.specs.Measuring.{IsMeasuredDamage}
 use Rattle.session.specs.declared.edits.Damage.{Damage}
 
--- the number of lines of a list of layouts is the sum of the lines before a range, in it, and after it
+-- the number of lines of a list of layouts is the number before a range, plus the numbers in it and after it
 line_parts : (kept : List Layout) (first count : ℕ) → length (lines_in kept)
     ≡ length (lines_in (take first kept)) + (length (lines_in (slice_range kept first (first + count))) + length (lines_in (drop (first + count) kept)))
 line_parts kept first count =

@@ -18,7 +18,7 @@ content_refusal_parts true within room h = absurd (cc h)
 content_refusal_parts false true room h = record { short = refl; are_within = refl; roomy = h }
 content_refusal_parts false false room h = absurd (cc h)
 
--- a text is allowed if its paragraphs and their advances are
+-- the paragraphs of a text are not refused if their lengths and their advances are within the limits
 pub refusal-none : (is_cut : ℕ → ℕ → Bool) (advances : Option (List ℕ)) (text : List ℕ) → is_within_limit is_cut text ≡ true → room_refusal advances (paragraphs is_cut text) ≡ None
     → paragraphs_refusal is_cut advances text ≡ None
 refusal-none is_cut advances text within room =

@@ -1,4 +1,4 @@
--- Why a session cannot be opened on a text, one reason after another.
+-- The reasons why a session cannot be opened on a text, in the order in which they are tested.
 use Rattle.std.proofs.Common.{◌≡◌, ℕ, ◌<◌, ◌≤◌, ◌==◌, nat_le, Bool, ◌&&◌, true, false, List, [], ◌∷◌, length, encode_utf8_all, Some, None, refl, ap, ◌∙◌, arith}
 use Rattle.std.specs.Prelude.{IsUtf8}
 use Rattle.std.specs.List.{concat}

@@ -1,5 +1,5 @@
--- The text that replaces the touched paragraphs has three parts: the front of the first one, the inserted
--- text, and the rest of the last one.
+-- The text that replaces the touched paragraphs has three parts: a prefix of the first paragraph, the
+-- inserted text, and a suffix of the last paragraph.
 use Rattle.std.proofs.Common.{◌≡◌, ℕ, zero, suc, zero-add, suc-add, ◌+◌, ◌-◌, ◌<◌, ◌≤◌, List, [], ◌∷◌, ◌++◌, length, take, drop, get_or, refl, sym, ap, ap₂, ◌∙◌, ◌⊎◌, inl, inr, arith}
 use Rattle.std.specs.List.{concat, slice_range}
 use Rattle.std.proofs.lemmas.Bool.{cases_eq, cases_lt}
@@ -92,8 +92,8 @@ front_of pars front pos = take (pos - front.chars) (get_or pars front.index [])
 abbrev pub back_of : List (List ℕ) → Border → ℕ → List ℕ
 back_of pars back to = let text = get_or pars (back.index - 1) [] in drop (length text - (back.chars - to)) text
 
--- whether two borders are the start of the first and the end of the last paragraph that a range touches, given the
--- paragraphs' texts
+-- whether two borders are the start of the first and the end of the last paragraph that a range touches,
+-- given the paragraphs' texts
 pub record AreAround (pars : List (List ℕ)) (pos to : ℕ) (front back : Border) : Type 0 where
   pub front_within : front.index ≤ length pars
   pub back_within : back.index ≤ length pars
@@ -118,7 +118,7 @@ are_around kept pos to front back f b =
       back_after = λ some. b.after (omega (arith, some, number));
     }
 
--- borders around a range are also around the same range of other texts of the same lengths
+-- borders around a range are also around it in a list of other paragraphs with the same starts
 pub same_around : (pars others : List (List ℕ)) (pos to : ℕ) (front back : Border) → length others ≡ length pars → ((i : ℕ) → start_of others i ≡ start_of pars i)
     → AreAround pars pos to front back → AreAround others pos to front back
 same_around pars others pos to front back number starts a = record {

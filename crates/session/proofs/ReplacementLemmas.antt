@@ -30,7 +30,7 @@ pub record IsSpliced (is_cut : ℕ → ℕ → Bool) (pars : List (List ℕ)) (p
 pub length-replaced_text : (text piece : List ℕ) (pos count : ℕ) → pos + count ≤ length text → length (replaced text (replacing pos count piece)) ≡ length text - count + length piece
 length-replaced_text = length-replaced
 
--- an edit of concatenated texts changes only the touched ones
+-- an edit of the concatenated paragraphs changes only the touched ones
 pub spliced_text : (pars : List (List ℕ)) (pos count : ℕ) (piece : List ℕ) (touched : Span) → pos + count ≤ length (concat pars) → AreTouched pars pos (pos + count) touched
     → replaced (concat pars) (replacing pos count piece) ≡ concat (take touched.first pars) ++ (region_of pars touched pos (pos + count) piece ++ concat (drop touched.end pars))
 spliced_text pars pos count piece touched within t =

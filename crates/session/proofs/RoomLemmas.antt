@@ -38,7 +38,7 @@ last_le [] = omega arith
 last_le (p ∷ []) = omega (arith, ap length (append-nil p))
 last_le (p ∷ q ∷ ps) = omega (arith, last_le (q ∷ ps), length-append p (concat (q ∷ ps)))
 
--- the advances of the last paragraph, after one more character
+-- the sum of the last paragraph's advances after one more character
 sum_last-push : (starts : Bool) (c a : ℕ) (ps : List (List ℕ)) (list : List ℕ) → length list ≡ length (concat ps)
     → sum_last (list ++ a ∷ []) (push starts c ps) ≡ (if starts then 0 else sum_last list ps) + a
 sum_last-push true c a ps list each =
@@ -165,7 +165,7 @@ pub summed_same : (is_cut : ℕ → ℕ → Bool) (text part same list given oth
 summed_same is_cut text part same list given others scan e f known =
     subst (λ (xs : List ℕ). HasSummed is_cut (text ++ xs) (list ++ others) scan) e (subst (λ (ys : List ℕ). HasSummed is_cut (text ++ part) (list ++ ys) scan) f known)
 
--- one more inserted character has one more advance of 0
+-- appending an inserted character appends an advance of 0
 pub zeros_push : (xs : List ℕ) (c : ℕ) → replicate {A = ℕ} (length (xs ++ c ∷ [])) 0 ≡ replicate (length xs) 0 ++ 0 ∷ []
 zeros_push [] c = refl
 zeros_push (x ∷ xs) c = ap (λ ys. 0 ∷ ys) (zeros_push xs c)

@@ -94,7 +94,7 @@ stays reason bound old new (Err ParagraphTooLong) r e = absurd (cc e)
 stays reason bound old new (Err NoMemory) r e = record { moved = has_stayed reason bound old new NoMemory r; accepted = r.answer }
 
 -- How much work an edit did. A refused edit did no work. Any other edit analysed at most n characters, and
--- filled and wrote lines of at most m.
+-- filled and wrote lines with at most m characters.
 pub record Works (reason : Option EditFault) (n m : ℕ) (old new : Engine) : Type 0 where
   pub analysed : RisesBy (if is_none reason then n else 0) (analysed_of old) (analysed_of new)
   pub filled : RisesBy (if is_none reason then m else 0) (filled_of old) (filled_of new)
@@ -152,7 +152,7 @@ edit_works edit old new (Err fault) whole m r =
     (subst (λ ps. IsCountedFor fault (LaysOutAtMost (fresh ps edit)) old.engine new.engine) (pars-kept old whole) r.counts)
     (λ e counts. works-laid_out reason n old.engine new.engine e counts)
 
--- a count that rises by exactly n rises by at most n
+-- if a saturating count rises by exactly n, `RisesBy n` holds
 RisesBy-exact : (n most old new : ℕ) → new ≡ counted old n → RisesBy most old new → RisesBy n old new
 RisesBy-exact n most old new exact r = record { least = r.least; most = omega (arith, exact) }
 

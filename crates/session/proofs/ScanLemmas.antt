@@ -10,8 +10,8 @@ use Rattle.session.specs.Scans.{HasScanned}
 use Rattle.session.specs.declared.scan.Scan.{Scan}
 use Rattle.lines.specs.declared.engine.TheConstants.{PARAGRAPH_LIMIT}
 
--- The last of several parts, and parts with one more character. The character starts a part or is appended to
--- the last one.
+-- The last of a list of parts, and a list of parts with one more character. The character starts a new part
+-- or is appended to the last one.
 abbrev pub last_of : List (List ℕ) → List ℕ
 last_of [] = []
 last_of (p ∷ []) = p
@@ -113,8 +113,8 @@ and_assoc false b c = refl
 shorter_within : (p : List ℕ) (c : ℕ) → nat_le (length (p ++ c ∷ [])) PARAGRAPH_LIMIT ≡ true → nat_le (length p) PARAGRAPH_LIMIT ≡ true
 shorter_within p c h = le-leb (length p) PARAGRAPH_LIMIT (omega (arith, length_push p c, leb-true (length (p ++ c ∷ [])) PARAGRAPH_LIMIT h))
 
--- after one more character, no part is too long if and only if none was too long before and the last one is not
--- too long now
+-- after one more character, no part is too long if and only if none was too long before and the last part is
+-- not too long now
 are_within-push : (starts : Bool) (c : ℕ) (ps : List (List ℕ)) → are_within (push starts c ps) ≡ (are_within ps && nat_le (length (last_of (push starts c ps))) PARAGRAPH_LIMIT)
 are_within-push starts c [] = refl
 are_within-push true c (p ∷ []) = and-true-swap (nat_le (length p) PARAGRAPH_LIMIT) true
@@ -133,8 +133,7 @@ slice_get-push text c =
     let at_end : length (text ++ c ∷ []) - 1 ≡ length text = omega (arith, length_push text c) in
     rw at_end (sym (slice_get-get_or (text ++ c ∷ []) (length text) c (omega (arith, length_push text c)) ∙ ap (λ x. Some x) (get_or_push text c c (length text) refl)))
 
--- One more character changes the capped length of the last paragraph as it changes the length. Before a
--- character that starts a new paragraph, the length is 0.
+-- If n is the capped value of m, this remains true when a new paragraph starts. Both lengths are then 0.
 len_before : (starts : Bool) (m n : ℕ) → n ≡ min m PARAGRAPH_LIMIT → (if starts then 0 else n) ≡ min (if starts then 0 else m) PARAGRAPH_LIMIT
 len_before true m n h = refl
 len_before false m n h = h

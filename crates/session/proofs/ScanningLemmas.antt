@@ -1,5 +1,5 @@
--- Scans for the first or the last number of a range that passes a test. Among the numbers that remain, a scan finds the same number as in
--- the whole range.
+-- Scans for the first or the last number of a range that passes a test. A scan of the remaining numbers finds
+-- the same number as a scan of the whole range.
 use Rattle.std.proofs.Common.{◌≡◌, ℕ, zero, suc, ◌+◌, ◌-◌, ◌<◌, ◌≤◌, Bool, true, false, Some, None, if◌then◌else◌, ap, ◌∙◌, refl, sym, arith}
 use Rattle.bidi.specs.Brackets.{greatest}
 use Rattle.ucd.specs.Least.{least}

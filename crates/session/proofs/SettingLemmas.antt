@@ -30,7 +30,7 @@ use Rattle.session.proofs.SpliceLemmas.{length-replaced, replaced-middle}
 use Rattle.session.proofs.TouchedLemmas.{start_of-end, start_of-le, start_of-le-length}
 use Rattle.session.proofs.UnitLemmas.{few_in_all, AreFew}
 
--- a range with characters, and the borders around their paragraphs
+-- a nonempty range, and the borders around the paragraphs that it overlaps
 pub record IsRange (kept : List Layout) (pos : ℕ) (new : List ℕ) (front back : Border) : Type 0 where
   pub law : ParagraphsArePieces
   pub few : LinesAreFew
@@ -64,7 +64,7 @@ Remains-worked engine next width is_measured kept pos new whole answer same coun
   counts = counts;
 }
 
--- a call that fills at most n characters also fills at most any greater number
+-- an upper bound on the number of filled characters can be replaced by a greater one
 fills_within : (few many : ℕ) (old new : Engine) → few ≤ many → FillsAtMost few old new → FillsAtMost many old new
 fills_within few many old new le counts = record {
   analysed = counts.analysed;
@@ -139,7 +139,7 @@ module _ (engine : Engine) (width : ℕ) (kept : List Layout) (whole : IsWholeLa
           after = λ _. rw place (omega (arith, range.back_is.border_is.chars, high));
         }
 
-    -- the advances of these paragraphs, with the new ones
+    -- the advances of these paragraphs after the new advances are set
     abbrev pub region : List ℕ
     region = front_of (advance_lists kept) front pos ++ (new ++ back_of (advance_lists kept) back (pos + length new))
 

@@ -139,7 +139,7 @@ length-replaced mid piece from count within =
     let back : length (drop (from + count) mid) ≡ length mid - (from + count) = length-drop (from + count) mid in
     rw (length-append (take from mid) (piece ++ drop (from + count) mid), length-append piece (drop (from + count) mid)) (omega arith)
 
--- if no old paragraph is too long, no paragraph is too long after the change if and only if none of the new ones is
+-- if no old paragraph is too long, then after the change some paragraph is too long only if a new one is
 pub are_within-splice : (left mid right new : List (List ℕ)) → are_within (left ++ (mid ++ right)) ≡ true → are_within (left ++ (new ++ right)) ≡ are_within new
 are_within-splice left mid right new h =
     let p : List ℕ → Bool = λ q. nat_le (length q) PARAGRAPH_LIMIT in

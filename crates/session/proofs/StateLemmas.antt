@@ -1,4 +1,4 @@
--- What calls do with a session does not depend on which lines changed.
+-- The effect of a call on a session does not depend on the session's changed lines.
 use Rattle.std.proofs.Common.{ℕ, Bool, List, Option, Result, Ok, Err, map, get_or, arith}
 use Rattle.std.specs.List.{All}
 use Rattle.std.proofs.lemmas.List.{length-map}
@@ -20,7 +20,7 @@ use Rattle.session.specs.declared.edits.Damage.{Damage}
 use Rattle.session.specs.declared.edits.EditFault.{EditFault}
 use Rattle.session.proofs.PlaceLemmas.{lines_lined}
 
--- if a fact about a result implies another one, the other one holds too
+-- if P implies Q, `IfOk r P` implies `IfOk r Q`
 pub if_ok : {X E : Type 0} (P Q : X → Type 0) (r : Result X E) → ((x : X) → P x → Q x) → IfOk r P → IfOk r Q
 if_ok P Q (Ok x) follows fact = follows x fact
 if_ok P Q (Err e) follows fact = tt
@@ -118,7 +118,7 @@ lined law begin engine width is_measured kept whole k d within =
     let is : IsLined l = lines_lined law begin engine width is_measured kept whole k d within in
     omega (arith, slice_get_within (map start_of l.lines) 0 0 (is.lines.first is.some), length-map l.lines start_of)
 
--- the changed lines that a call found are those of the two states
+-- the changed lines that a call found satisfy `AreChanged` for the old and the new layouts
 pub changed_as : ParagraphsArePieces → ((rules : Rules) (width : ℕ) (text : List ℕ) → BeginInOrder text (lines_of rules width text)) → (old new : Engine) (width other : ℕ) (is_measured : Bool) (kept made : List Layout)
     → IsWholeLayout (state_of old width is_measured kept) → IsWholeLayout (state_of new other is_measured made) → (damage : Damage) (changed : ChangedLines)
     → AreFound kept made damage changed → AreChanged (lines_in kept) (lines_in made) damage changed

@@ -8,7 +8,7 @@ use Rattle.lines.proofs.StayingLemmas.{extents-lines}
 use Rattle.session.specs.Kept.{rules_for, BringsTo, IsFresh}
 use Rattle.session.specs.Matching.{at_width}
 
--- a list has all items in common with itself
+-- all items of a list match those of the same list
 pub start_all : {A : Type 0} (xs : List A) → MatchAtStart xs xs (length xs)
 start_all xs = record { in_first = omega arith; in_second = omega arith; same = refl; most = λ first _ _. absurd (omega (arith, first)) }
 
@@ -16,7 +16,7 @@ pub end_all : {A : Type 0} (xs : List A) → MatchAtEnd xs xs (length xs)
 end_all xs = record { in_first = omega arith; in_second = omega arith; same = refl; most = λ first _ _. absurd (omega (arith, first)) }
 
 module _ (rules : Rules) (width : ℕ) (kept : Layout) where
-  -- a paragraph that keeps its lines stays the same
+  -- if a paragraph has no new extents, its layout at the new width is the old one
   pub stays_whole : BringsTo rules width kept None → at_width rules width kept ≡ kept
   stays_whole brings = ap (λ lines. let l : Layout = record kept { lines = lines } in l) (sym brings.1)
 

@@ -99,7 +99,7 @@ module _ (rules : Rules) (kept : List Layout) (clusters : AllClusters kept) (car
 
   -- ---- a step back
   module _ (at : line_at kept caret.line ≡ Some (line, start)) where
-    -- a step from an edge of a unit is one from its caret's column
+    -- a step from an edge is a step from the column of the edge's caret
     step_from : (edge : Edge) (from : Caret) → edge_caret_at rules kept edge ≡ Some from → from.line ≡ caret.line → (direction : Direction)
         → step_at rules kept edge direction ≡ step_on kept line start from.column direction
     step_from edge from drawn there direction =

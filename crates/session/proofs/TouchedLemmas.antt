@@ -63,8 +63,8 @@ start_of-le-length pars i =
     let last = start_of-le pars i (i + length pars) (omega arith) in
     let all = start_of-end pars (i + length pars) (omega arith) in omega arith
 
--- if `first` and `last` are what the two searches find, the paragraphs from `first` up to `last` are the
--- touched ones
+-- if `first` and `last` are the results of the two searches, the paragraphs from `first` up to `last` are
+-- the touched ones
 pub AreTouched-from_walks : (pars : List (List ℕ)) (pos end first last start stop : ℕ) → pos ≤ end → end ≤ length (concat pars)
     → start ≡ start_of pars first → stop ≡ start_of pars last → first ≤ last → last ≤ length pars
     → (0 < first → start < pos) → (first < length pars → pos ≤ start_of pars (first + 1))

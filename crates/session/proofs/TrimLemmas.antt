@@ -1,4 +1,4 @@
--- The damaged lines without those that are the same.
+-- The damaged lines without the unchanged lines at their start and at their end.
 use Rattle.std.proofs.Common.{◌≡◌, ℕ, ◌+◌, ◌-◌, ◌<◌, ◌≤◌, List, [], ◌++◌, length, take, drop, min, get_or, sum_by, refl, sym, ap, ap₂, subst, ◌∙◌, arith}
 use Rattle.std.specs.List.{All, slice_get, slice_range, splice}
 use Rattle.std.proofs.Math.Seq.{drop-append-add, take-append-add}
@@ -40,7 +40,7 @@ module _ (left lo ln right : List Visual) (damage : Damage) (s e : ℕ) (start :
   back-new : s + back ≤ length ln
   back-new = omega (arith, start.in_first, start.in_second, old-is, new-is)
 
-  -- if the last e lines match, so do the last `back` lines, which are at most as many
+  -- if the last e lines match and `back` is at most e, the last `back` lines match
   last : drop (length ln - back) ln ≡ drop (length lo - back) lo
   last =
       let a : length ln - e + (e - back) ≡ length ln - back = omega (arith, end.in_second, back-most) in

@@ -27,13 +27,13 @@ use Rattle.session.proofs.CoveringLemmas.{width_of}
 use Rattle.session.proofs.FirstLemmas.{greatest_is, IsLast}
 use Rattle.session.proofs.UnitTileLemmas.{Adjoins, HasCluster, HaveClusters}
 
--- where the character k of a line from `start` is, on line n
+-- whether the place of character k of a line that starts at `start` is on line n, at offset k
 pub record IsPlaced (kept : List Layout) (n start k : ℕ) : Type 0 where
   pub inside : start + k < length (text_of kept)
   pub line : (place_in kept (start + k)).line ≡ n
   pub offset : (place_in kept (start + k)).offset ≡ k
 
--- what holds for line n of a text, which starts at `start`
+-- the facts about line n of a text, which starts at the position `start`
 pub record IsLineOf (kept : List Layout) (n : ℕ) (line : Visual) (start : ℕ) : Type 0 where
   pub read : slice_get (lines_in kept) n ≡ Some line
   pub ordered : IsOrdered line
@@ -50,7 +50,7 @@ pub record IsDrawn (rules : Rules) (kept : List Layout) (n : ℕ) (edge : Edge) 
   pub line : to.line ≡ n
   pub at : to.column ≡ column
 
--- the caret on a side of the character k of a line from `start` is at a column of line n
+-- the caret on a side of character k of line n, which starts at `start`, is at a column of this line
 record IsBeside (kept : List Layout) (n start : ℕ) (side : Side) (k column : ℕ) : Type 0 where
   to : Caret
   drawn : caret_of kept side (start + k) (place_in kept (start + k)) ≡ Some to
@@ -155,7 +155,7 @@ module _ (rules : Rules) (kept : List Layout) (n : ℕ) (line : Visual) (start :
         (eq-eqb (unit_end line start has.cluster m) (suc (unit.end - 1)) ends)
         ∙ ap (λ (u : CaretUnit). u.trailing) same
 
-    -- the first character of the unit's range is in the cluster too, and the unit that it begins is the same one
+    -- the first character of the unit's range is also in the cluster, and its unit is the same one
     first_cluster : cluster_at kept (start + unit.start) ≡ Some has.cluster
     first_cluster =
         let own : IsMember line start has.cluster k unit.start = start_is line facts.ordered start has.cluster k held in

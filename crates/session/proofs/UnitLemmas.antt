@@ -1,4 +1,4 @@
--- The greatest lengths of texts in UTF-8 bytes and in UTF-16 code units.
+-- Upper bounds on the lengths of texts in UTF-8 bytes and in UTF-16 code units.
 use Rattle.std.proofs.Common.{ℕ, ◌*◌, ◌≤◌, nat_lt, true, false, if◌then◌else◌, List, [], ◌∷◌, length, sum_by, arith}
 use Rattle.std.specs.Char.{len_utf8}
 use Rattle.std.proofs.lemmas.List.Sums.{sum_by-cons}
@@ -17,7 +17,7 @@ utf8_few c = (len_utf8_bounds c).1
 pub utf16_few : AreFew len_utf16
 utf16_few c = elim (nat_lt c 0x1_0000) as (λ b. (if b then 1 else 2) ≤ 4) [ true ↦ omega arith | false ↦ omega arith ]
 
--- the texts of paragraphs have at most four times as many units as characters
+-- the number of units of the paragraphs' texts is at most four times their number of characters
 module _ (size : ℕ → ℕ) (few : AreFew size) where
   few_units : (text : List ℕ) → sum_by size text ≤ 4 * length text
   few_units [] = omega arith

@@ -19,7 +19,7 @@ use Rattle.session.proofs.CaretUnitLemmas.{even_columns, falling_columns, in_one
 use Rattle.session.proofs.CaretUnitLemmas.{EvenAdjoins, HasColumns, IsHeld, IsMember, OddAdjoins}
 use Rattle.session.proofs.CoveringLemmas.{covered, covering_is, takes_if, uncovered, width_of, CoveredBy}
 
--- the cluster of a position, which is also the cluster of each other position in it
+-- the cluster of a position; it is the cluster of every position that it contains
 pub record HasCluster (kept : List Layout) (pos : ℕ) : Type 0 where
   pub cluster : Cluster
   pub is : cluster_at kept pos ≡ Some cluster
@@ -27,13 +27,14 @@ pub record HasCluster (kept : List Layout) (pos : ℕ) : Type 0 where
   pub end : pos < cluster.end
   pub same : (other : ℕ) → cluster.start ≤ other → other < cluster.end → cluster_at kept other ≡ Some cluster
 
--- whether the characters of each cluster that are in a level run at an odd level are next to each other from left to right
+-- whether, in level runs at an odd level, the characters of each cluster are next to each other from left to
+-- right
 abbrev pub OddReads : List Layout → Visual → ℕ → Type 0
 OddReads kept line start = (j k : ℕ) → AreInRun line j k → is_odd (get_or line.levels j 0) ≡ true
     → (cluster : Cluster) → cluster_at kept (start + j) ≡ Some cluster → start + k < cluster.end
     → columns_left line (get_or line.ltov k 0) ≡ columns_left line (get_or line.ltov j 0) + columns_between line j k
 
--- how the characters of the level runs of a line follow each other
+-- the visual order of the characters in the level runs of a line
 pub record Adjoins (kept : List Layout) (line : Visual) (start : ℕ) : Type 0 where
   pub even : EvenAdjoins line
   pub odd : OddAdjoins line ⊎ OddReads kept line start

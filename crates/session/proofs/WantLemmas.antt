@@ -10,7 +10,7 @@ use Rattle.lines.specs.declared.engine.Engine.{Engine}
 use Rattle.session.specs.Kept.{advances_in, pars_of, text_of, layouts_of}
 use Rattle.session.specs.Sessions.{IsWholeLayout, state_of}
 
--- If a fact holds, `OnErr` holds for that fact. If a result is an error, a fact in `OnErr` holds.
+-- P implies `OnErr r P`. If r is an error, `OnErr r P` implies P.
 pub on_err : {A E P : Type 0} (r : Result A E) → P → OnErr r P
 on_err (Ok x) p = tt
 on_err (Err e) p = p
@@ -54,7 +54,7 @@ module _ (engine : Engine) (width : ℕ) (is_measured : Bool) (kept : List Layou
         length-append piece back,
       )
 
-  -- if text was laid out, the old text or the inserted text is not empty
+  -- if the text that is laid out is not empty, the old text or the inserted text is not empty
   pub some_joined : 0 < length (front ++ (piece ++ back)) → 0 < length (text_of kept) + length piece
   some_joined some = elim (cases_lt 0 (length (text_of kept) + length piece)) [
     | inl more ↦ more

@@ -205,7 +205,7 @@ module _ (start now : Engine) (width : ℕ) (kept : List Layout) (n : ℕ) (fill
       counts = upto (changed (rules_of start) width (take (n + 1) kept)) (omega arith);
     }
 
--- what an exchange of lines requires, and the layouts that result from it
+-- the precondition of an exchange of lines, and the resulting layouts
 abbrev pub fits_any : Writer → List Layout → List (Option LineExtents) → Type 0
 fits_any writer kept parts = AllZip (λ l part. IfSome part (CanBePut writer l)) kept parts
 

@@ -1,4 +1,4 @@
--- Worked examples of touched paragraphs, of what a width change fills again, and of lists of edits.
+-- Worked examples of touched paragraphs, of refilling after a width change, and of lists of edits.
 use Rattle.std.proofs.Common.{◌≡◌, ℕ, ◌==◌, Bool, false, List, [], ◌∷◌, Some, None, refl}
 use Rattle.ucd.specs.declared.tables.Tables.{Tables}
 use Rattle.bidi.specs.declared.base.Base.TheVariants.{WeakLtr}

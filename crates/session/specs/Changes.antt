@@ -8,9 +8,9 @@ use Rattle.session.specs.Kept.{lines_in}
 use Rattle.session.specs.declared.edits.ChangedLines.{ChangedLines}
 use Rattle.session.specs.declared.edits.Damage.{Damage}
 
--- Whether the changed lines are the damaged lines without the longest run of unchanged lines at their start, and
--- then without the longest such run at their end. The first lines that remain differ, and so do the last, unless
--- no old or no new line remains.
+-- Whether the changed lines are the damaged lines without the longest run of unchanged lines at their start,
+-- and then without the longest such run at their end. If old and new lines remain, the first old line differs
+-- from the first new line, and the last old line from the last new line.
 pub record AreChanged (old new : List Visual) (damage : Damage) (changed : ChangedLines) : Type 0 where
   pub start : damage.first_line ≤ changed.first_line
   pub end : changed.first_line + changed.old_lines ≤ damage.first_line + damage.old_lines
@@ -40,6 +40,6 @@ without_same damage start end =
     let back = min end (most - front) in
     record { first_line = damage.first_line + front; old_lines = damage.old_lines - front - back; new_lines = damage.new_lines - front - back }
 
--- if each paragraph has a line: whether these are the lines that changed between two lists of paragraphs
+-- whether `changed` are the lines that changed between two lists of paragraphs, if each paragraph has a line
 abbrev pub AreFound : List Layout → List Layout → Damage → ChangedLines → Type 0
 AreFound old new damage changed = All HasLines old → All HasLines new → AreChanged (lines_in old) (lines_in new) damage changed

@@ -12,7 +12,8 @@ pub record Replaces {A : Type 0} (old new : List A) (first count fresh : ℕ) : 
   pub front : take first new ≡ take first old
   pub back : drop (first + fresh) new ≡ drop (first + count) old
 
--- the damage names the touched paragraphs of the old text, their lines, and how many paragraphs and lines replace them
+-- the damage names the touched paragraphs of the old text, their lines, and how many paragraphs and lines
+-- replace them
 pub record IsDamage (edit : Replacement) (old new : List Layout) (damage : Damage) : Type 0 where
   pub first_par : damage.first_par ≡ first_touched (pars_of old) edit
   pub old_pars : damage.old_pars ≡ touched_count (pars_of old) edit

@@ -31,12 +31,12 @@ abbrev pub is_edge_at : ℕ → Side → Bool
 is_edge_at pos Before = true
 is_edge_at pos After = not (pos == 0)
 
--- whether an edge exists in a text of `chars` characters: a `Before` edge at any position up to the end, or an
--- `After` edge at any of these except 0
+-- whether an edge exists in a text of `chars` characters: a `Before` edge at any position up to the end, or
+-- an `After` edge at any of these positions except 0
 abbrev pub is_edge_in : ℕ → Edge → Bool
 is_edge_in chars edge = nat_le edge.pos chars && is_edge_at edge.pos edge.side
 
--- whether an edge is one of a character's two edges
+-- whether an edge on a side of `pos` belongs to a character of a text of `chars` characters
 abbrev pub IsBeside : ℕ → ℕ → Side → Type 0
 IsBeside chars pos Before = pos < chars
 IsBeside chars pos After = (0 < pos) × (pos ≤ chars)
@@ -70,7 +70,8 @@ abbrev pub column_on : Side → Visual → ℕ → Cluster → ℕ → ℕ
 column_on Before line start cluster k = column_before line start cluster k
 column_on After line start cluster k = column_after line start cluster k
 
--- the caret on a side of character k of a line that starts at `start`, or at the line's end if the character is not shown
+-- the caret on a side of character k of a line that starts at `start`, or at the line's end if the character
+-- is not shown
 abbrev pub caret_beside : Side → ℕ → Visual → ℕ → ℕ → Cluster → Caret
 caret_beside side n line start k cluster =
     if nat_lt k (length line.levels)
@@ -90,11 +91,11 @@ module _ (kept : List Layout) where
   abbrev pub unit_at : Visual → ℕ → ℕ → Option CaretUnit
   unit_at line start column = option_and_then (λ place. unit_in line start (slice_index line.vtol place)) (covering line column)
 
-  -- the caret on a side of the character at `place`, which is the character at `pos`
+  -- the caret on a side of the character at `pos`, whose place in the text is `place`
   abbrev pub caret_of : Side → ℕ → Place → Option Caret
   caret_of side pos place = option_and_then (λ line. option_map (caret_beside side place.line line (pos - place.offset) place.offset) (cluster_at kept pos)) (slice_get (lines_in kept) place.line)
 
-  -- A step from a column of a line over the unit that covers the next column, to the far end of that unit.
+  -- The edge after a step from a column of a line: the far end of the next unit in that direction.
   abbrev pub step_on : Visual → ℕ → ℕ → Direction → Option Edge
   step_on line start column Right = option_map (right_edge start) (unit_at line start column)
   step_on line start zero Left = None
@@ -117,12 +118,13 @@ module _ (kept : List Layout) where
   abbrev pub nearest_on : Visual → ℕ → ℕ → Edge
   nearest_on line start column = nearest_by start column (unit_at line start column) (unit_at line start (columns_left line (length line.vtol) - 1))
 
--- whether line n would be the next one: it is the line after the last, and a new paragraph would start at the end of the text
+-- whether line n is the line after the last one, and a new paragraph would start at the end of the text
 abbrev pub is_next : Rules → List Layout → ℕ → Bool
 is_next rules kept n = (n == length (lines_in kept)) && is_closed rules (text_of kept)
 
--- The caret at an edge, on the line of the character that the edge belongs to. The `Before` edge at the end of the
--- text has the caret that `caret_at` returns. `None` past the end, and for the `After` edge of position 0.
+-- The caret at an edge, on the line of the character that the edge belongs to. The `Before` edge at the end
+-- of the text has the caret that `caret_at` returns. `None` past the end, and for the `After` edge of
+-- position 0.
 abbrev pub edge_caret_by : Rules → List Layout → Side → ℕ → Option Caret
 edge_caret_by rules kept Before pos =
     if nat_le (length (text_of kept)) pos then caret_at rules kept pos else caret_of kept Before pos (place_in kept pos)
@@ -132,19 +134,19 @@ edge_caret_by rules kept After (suc pos) = if nat_le (length (text_of kept)) pos
 abbrev pub edge_caret_at : Rules → List Layout → Edge → Option Caret
 edge_caret_at rules kept edge = edge_caret_by rules kept edge.side edge.pos
 
--- a step from an edge
+-- the edge after a step from an edge, if there is one
 abbrev pub step_at : Rules → List Layout → Edge → Direction → Option Edge
 step_at rules kept edge direction =
     option_and_then (λ caret. option_and_then (λ found. step_on kept found.0 found.1 caret.column direction) (line_at kept caret.line))
     (edge_caret_at rules kept edge)
 
--- the edge at a column of line n; `None` for lines past the next one
+-- the edge at a column of line n; `None` past the line that contains the end of the text
 abbrev pub edge_at : Rules → List Layout → ℕ → ℕ → Option Edge
 edge_at rules kept n column =
     if is_next rules kept n then Some (before (length (text_of kept)))
     else option_map (λ found. edge_on kept found.0 found.1 column) (line_at kept n)
 
--- the edge nearest to a column of line n; `None` for lines past the next one
+-- the edge nearest to a column of line n; `None` past the line that contains the end of the text
 abbrev pub nearest_edge : Rules → List Layout → ℕ → ℕ → Option Edge
 nearest_edge rules kept n column =
     if is_next rules kept n then Some (before (length (text_of kept)))
@@ -155,8 +157,8 @@ abbrev pub end_of : List Layout → ℕ → ℕ
 end_of kept n = unwrap_or (slice_get (line_starts kept) (suc n)) (length (text_of kept))
 
 -- The last edge of a line from `start` up to `end`, of which `visible` characters are shown. It is before the
--- separator that ends the line, if there is one. Otherwise, on the text's last line, it is before the end of the text.
--- On other lines, it is before the first space that is not shown, or else after the last character.
+-- separator that ends the line, if there is one. Otherwise, on the text's last line, it is before the end of
+-- the text. On other lines, it is before the first space that is not shown, or else after the last character.
 abbrev pub last_edge : Rules → List ℕ → ℕ → ℕ → ℕ → Edge
 last_edge rules text start end visible =
     let separators = separator_len rules.tables (slice_index text (max (end - 2) start)) (slice_index text (end - 1)) in
@@ -164,7 +166,7 @@ last_edge rules text start end visible =
     else (if end == length text then before end
     else (if nat_lt visible (end - start) then before (start + visible) else after end)))
 
--- the first and the last edge of line n, in logical order; `None` for lines past the next one
+-- the first and the last edge of line n, in logical order; `None` past the line with the end of the text
 abbrev pub line_edges : Rules → List Layout → ℕ → Option LineEdges
 line_edges rules kept n =
     let next = before (length (text_of kept)) in

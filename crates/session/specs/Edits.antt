@@ -30,7 +30,7 @@ insertion pos piece = record { pos = pos; count = 0; piece = piece }
 abbrev pub deletion : ℕ → ℕ → Replacement
 deletion pos count = record { pos = pos; count = count; piece = [] }
 
--- the advances of a measured text after an edit: those of inserted characters are 0, and all other characters keep theirs
+-- the advances of a measured text after an edit: 0 for inserted characters, and unchanged for all others
 abbrev pub advances_after : Option (List ℕ) → Replacement → Option (List ℕ)
 advances_after advances edit = option_map (λ list. replaced list (replacing edit.pos edit.count (replicate (length edit.piece) 0))) advances
 
@@ -67,8 +67,8 @@ content_refusal is_cut advances text =
 abbrev pub text_refusal : (ℕ → ℕ → Bool) → List ℕ → Option EditFault
 text_refusal is_cut text = content_refusal is_cut None text
 
--- The reason for refusing an edit, or `None`. An edit is refused if it reaches past the end of the text, or if its
--- result is refused.
+-- The reason for refusing an edit, or `None`. An edit is refused if it reaches past the end of the text, or
+-- if the text after the edit is refused.
 abbrev pub refusal : (ℕ → ℕ → Bool) → Option (List ℕ) → List ℕ → Replacement → Option EditFault
 refusal is_cut advances text edit =
     if nat_lt (length text) (edit.pos + edit.count) then Some OutOfRange

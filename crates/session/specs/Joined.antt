@@ -1,4 +1,4 @@
--- A text that is given in three parts: what is before an edit, the inserted text, and what is after the edit.
+-- A text in three parts: the text before an edit, the inserted text, and the text after the edit.
 use Rattle.std.specs.Prelude.{ℕ, List, ◌++◌, length, replicate, Bool, Option}
 use Rattle.std.specs.Str.{chars}
 use Rattle.lines.specs.Measures.{given_if}

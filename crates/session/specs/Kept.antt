@@ -56,7 +56,8 @@ pub record TotalsFit (kept : List Layout) : Type 0 where
   pub bytes : sum_by (units_of Utf8) kept < 2 ^ 64
   pub utf16 : sum_by (units_of Utf16) kept < 2 ^ 64
 
--- the fresh layouts of adjacent paragraphs at a width, given the advances of all their characters if they are measured
+-- the fresh layouts of adjacent paragraphs at a width, given the advances of all their characters if the text
+-- is measured
 abbrev pub layouts_from : Rules → ℕ → Option (List ℕ) → List (List ℕ) → List Layout
 layouts_from rules width advances [] = []
 layouts_from rules width advances (p ∷ pars) =
@@ -74,7 +75,8 @@ rules_for rules kept = with_advances rules kept.advances
 abbrev pub IsFresh : Rules → Layout → Type 0
 IsFresh rules kept = IsLaidOut (rules_for rules kept) kept
 
--- how many characters of a paragraph are refilled when the width changes: all, or none if it keeps its only line
+-- how many characters of a paragraph are refilled when the width changes: 0 if the paragraph keeps its only
+-- line, or else all
 abbrev pub changed_in : Rules → ℕ → Layout → ℕ
 changed_in rules width kept = if keeps_lines rules width kept then 0 else length kept.text
 
@@ -82,7 +84,7 @@ changed_in rules width kept = if keeps_lines rules width kept then 0 else length
 abbrev pub changed : Rules → ℕ → List Layout → ℕ
 changed rules width kept = sum_by (changed_in rules width) kept
 
--- what writing the lines of paragraphs depends on: the rules, and the capacity of the scratch space
+-- the parameters for writing the lines of paragraphs: the rules, and the capacity of the scratch space
 pub record Writer : Type 0 where
   pub rules : Rules
   pub capacity : ℕ
@@ -97,7 +99,7 @@ abbrev pub put_into : Writer → Layout → Option LineExtents → Layout
 put_into writer kept None = kept
 put_into writer kept (Some extents) = reflowed writer.rules kept extents
 
--- the extents of the lines that are replaced, if there are new ones
+-- the extents of the replaced lines, or `None` if no lines are replaced
 abbrev pub taken_from : Layout → Option LineExtents → Option LineExtents
 taken_from kept None = None
 taken_from kept (Some extents) = Some (extents_in kept.lines)
@@ -107,7 +109,7 @@ abbrev pub written_for : Layout → Option LineExtents → ℕ
 written_for kept None = 0
 written_for kept (Some extents) = length kept.text
 
--- rewriting the lines changes neither the text nor its lengths
+-- rewriting the lines of a paragraph does not change its text
 pub text_stays : (writer : Writer) (kept : Layout) (part : Option LineExtents) → (put_into writer kept part).text ≡ kept.text
 text_stays writer kept None = refl
 text_stays writer kept (Some extents) = refl
@@ -119,7 +121,8 @@ pub record CanBePut (writer : Writer) (kept : Layout) (extents : LineExtents) : 
   pub at_width : (width : ℕ) × (extents ≡ extents_of (rules_for writer.rules kept) width kept.text)
   pub capacity : length kept.text ≤ writer.capacity
 
--- The extents are those of the paragraph at a width. If the paragraph keeps its only line, there are no extents.
+-- Whether the extents are those of the paragraph at a width. A paragraph that keeps its only line has no
+-- extents, and its line is already the line at that width.
 abbrev pub BringsTo : Rules → ℕ → Layout → Option LineExtents → Type 0
 BringsTo rules width kept None = (keeps_lines rules width kept ≡ true) × (kept.lines ≡ lines_of (rules_for rules kept) width kept.text)
 BringsTo rules width kept (Some extents) = (keeps_lines rules width kept ≡ false) × (extents ≡ extents_of (rules_for rules kept) width kept.text)

@@ -1,4 +1,4 @@
--- How many lines of a paragraph are the same as those of another one.
+-- How many lines at the start or at the end of two paragraphs are the same.
 use Rattle.std.specs.Prelude.{◌≡◌, ◌<◌, ◌≤◌, ◌⊎◌, ℕ, true, false, List, length, Option}
 use Rattle.std.specs.List.{All, AllZip}
 use Rattle.lines.specs.Extents.{LineExtents}
@@ -7,7 +7,7 @@ use Rattle.lines.specs.Matching.{MatchAtEnd, MatchAtStart}
 use Rattle.session.specs.Kept.{rules_for, BringsTo, IsFresh}
 use Rattle.session.specs.declared.changed.Matching.{Matching}
 
--- whether all lines of both paragraphs match, or one of the two has more lines than match
+-- whether `is_whole` is true if all lines of both paragraphs match, and false if either has other lines
 pub record IsWhole (lines others : ℕ) (matching : Matching) : Type 0 where
   pub all : matching.is_whole ≡ true → (lines ≤ matching.count) × (others ≤ matching.count)
   pub some : matching.is_whole ≡ false → (matching.count < lines) ⊎ (matching.count < others)

@@ -48,7 +48,7 @@ pub record SetsMeasuredWidth (width : ℕ) (old new : SessionState) (answer : Da
 abbrev pub SetsMeasuredWidthNot : ℕ → SessionState → SessionState → AdvanceFault → Type 0
 SetsMeasuredWidthNot width old = Remains (measured_width_refusal old.advances width) (FindsExtentsAtMost (changed (rules_of old.engine) width old.kept)) old
 
--- the advances of a text after those of the characters from `pos` on are set
+-- the advances of a text after `list` has replaced those of the characters from `pos` on
 abbrev pub advances_set : List ℕ → ℕ → List ℕ → List ℕ
 advances_set old pos list = replaced old (replacing pos (length list) list)
 
@@ -97,6 +97,6 @@ pub record SetsAdvances (pos : ℕ) (list : List ℕ) (old new : SessionState) (
 abbrev pub SetsAdvancesNot : ℕ → List ℕ → SessionState → SessionState → AdvanceFault → Type 0
 SetsAdvancesNot pos list old = Remains (advances_refusal (cuts_at old) old.advances (text_at old) pos list) (FillsAtMost (length (text_at old))) old
 
--- the advances of a range's paragraphs after the new ones are set
+-- the advances of the paragraphs that overlap a range, after new advances are set in the range
 abbrev pub spliced : Spliced → List ℕ
 spliced list = list.front.now ++ (list.new.now ++ list.back.now)

@@ -10,7 +10,7 @@ abbrev pub lines_from : ℕ → List Layout → List ℕ
 lines_from place [] = []
 lines_from place (l ∷ kept) = map (λ line. place + line.start) l.lines ++ lines_from (place + length l.text) kept
 
--- the starts of the paragraphs in such a list
+-- the starts of the paragraphs in a list whose first paragraph starts at `place`
 abbrev pub paragraphs_from : ℕ → List Layout → List ℕ
 paragraphs_from place [] = []
 paragraphs_from place (l ∷ kept) = place ∷ paragraphs_from (place + length l.text) kept
@@ -31,7 +31,8 @@ first_line_at kept index = if nat_lt index (length kept) then Some (length (line
 abbrev pub count_to : ℕ → List ℕ → ℕ
 count_to pos starts = count_by (λ start. nat_le start pos) starts
 
--- the last paragraph and the last line that start at or before a position, and the offset of the position in that line
+-- the last paragraph and the last line that start at or before a position, and the offset of the position in
+-- that line
 abbrev pub place_in : List Layout → ℕ → Place
 place_in kept pos = record {
   paragraph = count_to pos (paragraph_starts kept) - 1;
@@ -50,8 +51,8 @@ is_closed rules text =
     let last = slice_index text (length text - 1) in
     length text == 0 || cut_by rules last last
 
--- The paragraph, line and offset of a position in a text. The end of the text is placed after the last character or, if
--- a new paragraph would start there, at the start of that paragraph.
+-- The paragraph, line and offset of a position in a text. The end of the text is placed after the last
+-- character or, if a new paragraph would start there, at the start of that paragraph.
 abbrev pub place_at : Rules → List Layout → ℕ → Option Place
 place_at rules kept pos =
     if nat_lt (length (text_of kept)) pos then None

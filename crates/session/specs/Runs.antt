@@ -52,8 +52,8 @@ module _ (rules : Rules) where
   TakesMemory held (Delete pos count) = 0 < length held.text
   TakesMemory held (SetWidth width) = 0 < length held.text
 
-  -- The run stopped at `edit`, after the edits in `front`. That edit is not refused and may allocate. The counters may
-  -- include its work.
+  -- The run stopped at `edit`, after the edits in `front`. This edit is not refused and may allocate. The
+  -- counters may include its work.
   pub record StopsAt (start : Held) (edits : List Edit) (now : Held) (old new : Engine) : Type 0 where
     pub front : List Edit
     pub edit : Edit

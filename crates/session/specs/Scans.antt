@@ -23,8 +23,8 @@ is_over_scan scan = scan.is_over
 abbrev pub last_paragraph : List (List ℕ) → List ℕ
 last_paragraph pars = slice_index_or pars (length pars - 1) []
 
--- Whether a scan holds the last character of a text, and whether the advances of any paragraph add up to 2^32 or
--- more. If none do, the scan also holds the sum of the last paragraph's advances.
+-- Whether a scan holds the last character of a text, and whether the advances of any paragraph add up to
+-- 2^32 or more. If none do, the scan also holds the sum of the last paragraph's advances.
 pub record HasSummed (is_cut : ℕ → ℕ → Bool) (text advances : List ℕ) (scan : RoomScan) : Type 0 where
   pub last : scan.last ≡ slice_get text (length text - 1)
   pub each : length advances ≡ length text

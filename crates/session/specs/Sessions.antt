@@ -16,8 +16,8 @@ use Rattle.session.specs.declared.edits.Damage.{Damage}
 use Rattle.session.specs.declared.edits.EditFault.{EditFault}
 use Rattle.session.specs.declared.edits.EditFault.TheVariants.{WidthOutOfRange, NoMemory}
 
--- the state of a session: its engine, its width, the advances of its characters if it is measured, the layout of each paragraph, and which
--- lines the last successful call changed
+-- the state of a session: its engine, its width, the advances of its characters if it is measured, the layout
+-- of each paragraph, and the lines that the last successful call changed
 pub record SessionState : Type 0 where
   pub engine : Engine
   pub width : ℕ
@@ -25,11 +25,11 @@ pub record SessionState : Type 0 where
   pub kept : List Layout
   pub changed : ChangedLines
 
--- the state of a session with these parts, in which no lines have changed
+-- the state of a session with the given engine, width and layouts, and without changed lines
 abbrev pub state_of : Engine → ℕ → Bool → List Layout → SessionState
 state_of engine width is_measured kept = record { engine = engine; width = width; advances = advances_in is_measured kept; kept = kept; changed = no_lines }
 
--- the same state with these changed lines
+-- a state with other changed lines
 abbrev pub with_changed : SessionState → ChangedLines → SessionState
 with_changed state changed = record state { changed = changed }
 
@@ -37,7 +37,7 @@ with_changed state changed = record state { changed = changed }
 abbrev pub text_at : SessionState → List ℕ
 text_at state = text_of state.kept
 
--- the paragraph boundaries of a session's engine
+-- whether a session's engine finds a paragraph boundary between two characters
 abbrev pub cuts_at : SessionState → ℕ → ℕ → Bool
 cuts_at state = cut_by (rules_of state.engine)
 
@@ -52,11 +52,11 @@ held_at state = record { text = text_at state; width = state.width; advances = s
 abbrev pub layouts_at : Rules → Held → List Layout
 layouts_at rules held = layouts_of (with_advances rules held.advances) held.width held.text
 
--- the printed bytes of these layouts
+-- the printed bytes of the fresh layouts of a text with its advances
 abbrev pub page_of : Rules → Print → Held → List ℕ
 page_of rules print held = flat_map (layout_bytes held.width print) (layouts_at rules held)
 
--- the printed bytes of the fresh layout of the whole text
+-- the printed bytes of the fresh layouts of a session's text
 abbrev pub page_at : SessionState → Print → List ℕ
 page_at state print = page_of (rules_of state.engine) print (held_at state)
 

@@ -20,7 +20,8 @@ right_of unit = if is_odd unit.level then unit.leading else unit.trailing
 
 -- a line of a text, and the position at which it starts
 module _ (kept : List Layout) (line : Visual) (start : ℕ) where
-  -- whether a unit covers a column, has its two ends around it, and is the unit of each column between these ends
+  -- whether a unit is found at a column, has this column between its two ends, and is found at every column
+  -- between its ends
   pub record Covers (column : ℕ) (unit : CaretUnit) : Type 0 where
     pub found : unit_at kept line start column ≡ Some unit
     pub left : left_of unit ≤ column
@@ -48,12 +49,12 @@ pub record IsOn (rules : Rules) (kept : List Layout) (edge : Edge) (caret : Care
   pub drawn : edge_caret_at rules kept edge ≡ Some caret
   pub read : line_at kept caret.line ≡ Some (line, start)
 
--- the other direction
+-- the opposite direction
 abbrev pub back : Direction → Direction
 back Left = Right
 back Right = Left
 
--- the edge after some steps in one direction
+-- the edge after `count` steps in one direction, if all of these steps are possible
 abbrev pub after_steps : Rules → List Layout → Direction → ℕ → Edge → Option Edge
 after_steps rules kept direction zero edge = Some edge
 after_steps rules kept direction (suc count) edge = option_and_then (after_steps rules kept direction count) (step_at rules kept edge direction)
@@ -74,8 +75,8 @@ module _ (rules : Rules) (kept : List Layout) (line : Visual) (start : ℕ) (dir
   IsStep (Some next) = StepsTo next
   IsStep None = (c : ℕ) → IsBoundary kept line start c → IsFurther direction caret.column c → ⊥
 
--- whether repeated steps from the edge of a caret reach a column: after some number of steps, the caret is at that
--- column, on the same line
+-- whether repeated steps from the edge of a caret reach a column: after some number of steps, the caret is at
+-- that column, on the same line
 pub record Meets (rules : Rules) (kept : List Layout) (direction : Direction) (edge : Edge) (caret : Caret) (column : ℕ) : Type 0 where
   pub count : ℕ
   pub last : Edge
@@ -100,9 +101,9 @@ pub record IsLastTo (rules : Rules) (kept : List Layout) (n : ℕ) (line : Visua
   pub within : to.column ≤ column
   pub last : (c : ℕ) → IsBoundary kept line start c → c ≤ column → c ≤ to.column
 
--- Whether the units of each line tile its columns, and the edge at a column is at the last boundary up to that column.
--- From each edge, a step leads to the nearest boundary, repeated steps reach all boundaries in their direction, and a
--- step back returns.
+-- Whether the units of each line tile its columns, and the edge at a column is at the last boundary up to
+-- that column. From each edge, a step leads to the nearest boundary, and repeated steps reach all boundaries
+-- in their direction. From a boundary, a step and a step back return to the same column.
 pub record StepsAreNearest (rules : Rules) (kept : List Layout) : Type 0 where
   pub tile : (n : ℕ) (line : Visual) (start : ℕ) → line_at kept n ≡ Some (line, start) → UnitsTile kept line start
   pub at : (n : ℕ) (line : Visual) (start : ℕ) → line_at kept n ≡ Some (line, start)

@@ -1,6 +1,6 @@
--- What a caret moves over on a line. A unit begins at each character of a grapheme cluster that takes columns, unless an earlier such
--- character of the cluster is in the same level run. It ends where the cluster's next unit begins, or else at the end
--- of the shown part of the cluster.
+-- Caret units: what a caret moves over on a line in one step. A unit begins at each character of a grapheme
+-- cluster that takes columns, unless an earlier such character of the cluster is in the same level run. It
+-- ends where the cluster's next unit begins, or else at the end of the shown part of the cluster.
 use Rattle.std.specs.Prelude.{ℕ, suc, ◌+◌, ◌-◌, nat_lt, nat_le, ◌==◌, Bool, ◌&&◌, not, min, max, length, slice_index, Option, Some, None, unwrap_or, if◌then◌else◌}
 use Rattle.bidi.specs.Brackets.{greatest}
 use Rattle.lines.specs.Clusters.{after}
@@ -17,7 +17,7 @@ module _ (line : Visual) where
   abbrev pub takes_columns : ℕ → Bool
   takes_columns k = nat_lt 0 (columns_between line k (suc k))
 
-  -- whether character j is at another level than character k
+  -- whether the levels of characters j and k differ
   abbrev pub is_at_other : ℕ → ℕ → Bool
   is_at_other k j = not (slice_index line.levels j == slice_index line.levels k)
 
@@ -35,8 +35,9 @@ module _ (line : Visual) where
       let k = slice_index line.vtol place in
       (nat_le first k && nat_lt k end) && takes_columns k
 
-  -- The column of the leading end of a unit. At an even level, this is the left edge of its first character. At an
-  -- odd level, it is the right edge of its rightmost character, which may be a mark with columns after its base (L3).
+  -- The column of the leading end of a unit. At an even level, this is the left edge of its first character.
+  -- At an odd level, it is the right edge of its rightmost character, which may be a mark that takes columns
+  -- and comes after its base (L3).
   abbrev pub leading_of : ℕ → ℕ → ℕ → ℕ
   leading_of level first end =
       if is_odd level then columns_left line (after (greatest (is_in_unit first end) (length line.vtol)) 0) else leading_edge line first
@@ -51,15 +52,15 @@ module _ (line : Visual) (start : ℕ) (cluster : Cluster) where
   abbrev pub shown_end : ℕ
   shown_end = min (cluster.end - start) (length line.levels)
 
-  -- The start of the unit of character k, which takes columns: the first character of its cluster and level run that
-  -- takes columns.
+  -- The start of the unit of character k, which takes columns: the first character that takes columns in the
+  -- same cluster and level run.
   abbrev pub unit_start : ℕ → ℕ
   unit_start k =
       let low = max shown_begin (run_begin line k) in
       unwrap_or (least (takes_columns line) low (k - low)) k
 
-  -- the end of this unit: the first character of a later run in the cluster that takes columns, or else the end of
-  -- the shown part
+  -- the end of this unit: the first character that takes columns in a later level run of the cluster, or else
+  -- the end of the shown part
   abbrev pub unit_end : ℕ → ℕ
   unit_end k = unwrap_or (least (takes_columns line) (run_end line k) (shown_end - run_end line k)) shown_end
 
@@ -78,17 +79,17 @@ module _ (line : Visual) (start : ℕ) (cluster : Cluster) where
         level = level;
       }
 
-  -- the column of the edge before character k: its unit's leading end if the unit begins with it, or else its own
-  -- leading edge
+  -- the column of the edge before character k: the leading end of k's unit if the unit begins with k, or else
+  -- the leading edge of k
   abbrev pub column_before : ℕ → ℕ
   column_before k = if takes_columns line k && unit_start k == k then (unit_of k).leading else leading_edge line k
 
-  -- the last character of the cluster at or before k that takes columns; character k belongs to its unit
+  -- the last character that takes columns in the cluster, at or before k; its unit also contains k
   abbrev pub holder : ℕ → Option ℕ
   holder k = greatest (λ j. nat_le shown_begin j && takes_columns line j) (suc k)
 
-  -- the column of the edge after character k: the trailing end of k's unit if the unit ends with k, or else the
-  -- trailing edge of k
+  -- the column of the edge after character k: the trailing end of k's unit if the unit ends with k, or else
+  -- the trailing edge of k
   abbrev pub column_by : ℕ → Option ℕ → ℕ
   column_by k None = trailing_edge line k
   column_by k (Some j) = if unit_end j == suc k then (unit_of j).trailing else trailing_edge line k

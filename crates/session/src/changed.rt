@@ -1,6 +1,6 @@
 //! Finds which of the damaged lines are not the same as before. Compares the old paragraphs with the new ones
 //! from both ends, one pair after another. Two lines can be the same only if both are the first of their
-//! paragraph or both are not, so the search ends at the first pair whose line counts differ.
+//! paragraph or both are not, so the search ends at the first pair of paragraphs whose line counts differ.
 ghost use Rattle.std.specs.Prelude.{◌≡◌, ◌+◌, ◌^◌, ◌<◌, ◌≤◌, ℕ, length, map, sum_by};
 ghost use Rattle.std.specs.List.{All, slice_range};
 ghost use Rattle.lines.specs.Layouts.{visuals, Rules};
@@ -78,7 +78,7 @@ fn staying_end(kept: &Kept, part: &Option<Extents>) -> Matching
     }
 }
 
-/// How many lines at the start and at the end of adjacent paragraphs are the same as those of new ones.
+/// How many lines at the start and at the end of a range of paragraphs are the same as those of the new ones.
 #[derive(Clone, Copy, Debug)]
 pub struct SameEnds {
     pub start: usize,
@@ -92,7 +92,7 @@ fn ends_of_pair(old: &Kept, new: &Kept) -> SameEnds
 {
     let lines = old.lines();
     let start = old.laid().matching_at_start(new.laid());
-    // Fast path: if all lines but the last of both paragraphs are the same, the last lines differ.
+    // Fast path: if only the last lines of both paragraphs did not match from the start, they differ.
     let end = if new.lines() == lines && start < lines && lines - start == 1 {
         0
     } else {
@@ -113,8 +113,8 @@ fn line_count(new: &[Kept]) -> usize
     count
 }
 
-/// Returns how many lines at each end of adjacent paragraphs, which have `lines` lines, are the same as those
-/// of the new ones.
+/// Returns how many lines at each end of a range of paragraphs, which has `lines` lines, are the same as
+/// those of the new paragraphs.
 pub fn same_ends<S: ParagraphStore<Kept>>(
     store: &S,
     first: usize,
@@ -139,7 +139,7 @@ pub fn same_ends<S: ParagraphStore<Kept>>(
         return ends_of_pair(kept, &new[0]);
     }
     let start = matching_at_start(store, first, end, new);
-    // Fast path: if all lines but the last of both are the same, the last lines differ.
+    // Fast path: if only the last line of each side did not match from the start, these two lines differ.
     let end = if start < lines && lines - start == 1 && line_count(new) == lines {
         0
     } else {
@@ -148,7 +148,7 @@ pub fn same_ends<S: ParagraphStore<Kept>>(
     SameEnds { start, end }
 }
 
-// Returns how many lines at the start of adjacent paragraphs are the same as at the start of the new ones.
+// Returns how many lines at the start of a range of paragraphs are the same as at the start of the new ones.
 fn matching_at_start<S: ParagraphStore<Kept>>(
     store: &S,
     first: usize,
@@ -176,7 +176,7 @@ fn matching_at_start<S: ParagraphStore<Kept>>(
     count
 }
 
-// Returns how many lines at the end of adjacent paragraphs are the same as at the end of the new ones.
+// Returns how many lines at the end of a range of paragraphs are the same as at the end of the new ones.
 fn matching_at_end<S: ParagraphStore<Kept>>(
     store: &S,
     first: usize,
@@ -204,7 +204,7 @@ fn matching_at_end<S: ParagraphStore<Kept>>(
     count
 }
 
-/// Returns how many lines at the start of all paragraphs stay the same at another width.
+/// Returns how many lines at the start of the text stay the same at another width.
 pub fn staying_at_start<S: ParagraphStore<Kept>>(store: &S, parts: &[Option<Extents>]) -> usize
     requires { (rules : Rules) × (width : ℕ) × AreBrought rules width (S.items store.now) parts.now }
     ensures { (rules : Rules) (width : ℕ) → AreBrought rules width (S.items store.now) parts.now
@@ -228,7 +228,7 @@ pub fn staying_at_start<S: ParagraphStore<Kept>>(store: &S, parts: &[Option<Exte
     count
 }
 
-/// Returns how many lines at the end of all paragraphs stay the same at another width.
+/// Returns how many lines at the end of the text stay the same at another width.
 pub fn staying_at_end<S: ParagraphStore<Kept>>(store: &S, parts: &[Option<Extents>]) -> usize
     requires { (rules : Rules) × (width : ℕ) × AreBrought rules width (S.items store.now) parts.now }
     ensures { (rules : Rules) (width : ℕ) → AreBrought rules width (S.items store.now) parts.now

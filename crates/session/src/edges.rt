@@ -217,8 +217,8 @@ impl<S: ParagraphStore<Kept>> Session<S> {
     ///
     /// At the end of the text, the caret of the `Before` edge is the one that `caret` returns.
     ///
-    /// Can fail only at an edge of a character, if memory runs out. Needs time linear in the lengths of the
-    /// line and of the character's cluster (see `cluster`).
+    /// Fails only if memory runs out, and only at an edge of a character. Needs time linear in the lengths of
+    /// the line and of the character's cluster (see `cluster`).
     pub fn edge_caret(&self, edge: Edge) -> Result<Option<Caret>, AllocError>
         ensures ok { IfOk result (λ caret. caret
             ≡ edge_caret_at (rules_of self.now.engine) self.now.kept edge) }
@@ -248,7 +248,7 @@ impl<S: ParagraphStore<Kept>> Session<S> {
     /// A step moves over one caret unit: a grapheme cluster or, if the cluster's characters are in several
     /// level runs, the part in one of these runs. The returned edge is the unit's far edge.
     ///
-    /// Can fail only if the text is not empty, if memory runs out. Costs as much as `edge_caret`.
+    /// Fails only if memory runs out, and never in an empty text. Costs as much as `edge_caret`.
     pub fn step(&self, edge: Edge, direction: Direction) -> Result<Option<Edge>, AllocError>
         ensures ok { IfOk result (λ next. next
             ≡ step_at (rules_of self.now.engine) self.now.kept edge direction) }
@@ -323,8 +323,8 @@ impl<S: ParagraphStore<Kept>> Session<S> {
         }
     }
 
-    // Returns whether line `n` would be the next one: it is the line after the last, and a new paragraph
-    // would start at the end of the text.
+    // Returns whether line `n` is the line after the last one, and a new paragraph would start at the end of
+    // the text.
     fn is_next(&self, n: usize) -> bool
         ensures { result ≡ is_next (rules_of self.now.engine) self.now.kept n }
     {
@@ -366,11 +366,11 @@ impl<S: ParagraphStore<Kept>> Session<S> {
     }
 
     /// Returns the edge at a column of line `n`: the left end of the caret unit that covers the column. For a
-    /// column to the right of the text, this is the text's right end. So the columns 0 and `usize::MAX` find
+    /// column to the right of the text, this is the text's right end. So the columns 0 and `usize::MAX` give
     /// the two ends of the line on the screen. Returns `None` past the line that contains the end of the
     /// text.
     ///
-    /// Can fail only on a line that exists, if memory runs out. Costs as much as `edge_caret`.
+    /// Fails only if memory runs out, and only on a line that exists. Costs as much as `edge_caret`.
     pub fn edge_at(&self, n: usize, column: usize) -> Result<Option<Edge>, AllocError>
         ensures ok { IfOk result (λ edge. edge
             ≡ edge_at (rules_of self.now.engine) self.now.kept n column) }
@@ -389,7 +389,7 @@ impl<S: ParagraphStore<Kept>> Session<S> {
     /// column, or the right end at the unit's middle. For a unit of one column, and for a column outside the
     /// text, this is the edge that `edge_at` returns.
     ///
-    /// Can fail only on a line that exists, if memory runs out. Costs as much as `edge_caret`.
+    /// Fails only if memory runs out, and only on a line that exists. Costs as much as `edge_caret`.
     pub fn nearest_edge(&self, n: usize, column: usize) -> Result<Option<Edge>, AllocError>
         ensures ok { IfOk result (λ edge. edge
             ≡ nearest_edge (rules_of self.now.engine) self.now.kept n column) }

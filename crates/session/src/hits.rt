@@ -12,7 +12,7 @@ pub struct Hit {
     /// The position of the character in the text.
     pub pos: usize,
     /// Whether the column is past the character in the character's direction, so that a caret belongs after
-    /// the character. Past the character is on its right at an even level, and on its left at an odd level.
+    /// the character. At an even level, that is to the character's right; at an odd level, to its left.
     pub trailing: bool,
 }
 

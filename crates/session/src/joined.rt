@@ -25,8 +25,8 @@ use lines::{Engine, PARAGRAPH_LIMIT};
 use std::alloc::{AllocError, Global};
 use stream::push_characters;
 
-// Returns an upper bound on the number of characters in the three parts, with the length of the inserted text
-// in bytes.
+// Returns an upper bound on the number of characters in the three parts. Counts the bytes of the inserted
+// text instead of its characters.
 fn len_at_most(front: &[char], piece: &str, back: &[char]) -> usize
     ensures { result ≡ length front.now + length piece.now + length back.now }
 {
@@ -242,7 +242,7 @@ pub fn lay_out_owned(
     }
 }
 
-// Frees the unused capacity of a list if it is more than 16 items plus an eighth of the length.
+// Frees the unused capacity of a list if this capacity exceeds 16 items plus an eighth of the length.
 fn trim(list: Vec<char>) -> Vec<char>
     ensures { result.items ≡ list.items }
 {

@@ -137,7 +137,7 @@ impl Exchange for Kept {
     ghost use Rattle.std.specs.Prelude.{length, refl};
     ghost use Rattle.lines.specs.Layouts.{AreLinesOf, IsLaidOut, Rules};
 
-    // The lines are this paragraph's, found with the tables and options of its layout.
+    // The lines belong to this paragraph, and were found with the tables and options of its layout.
     ghost fits = { λ kept fill.
         (rules : Rules) × IsLaidOut rules kept × AreLinesOf rules kept.text fill };
 
@@ -189,7 +189,7 @@ impl<'a> Exchanger<Kept> for Reflow<'a> {
 
     ghost kind = { λ reflow. reflow.by };
 
-    // The extents are this paragraph's, and the scratch space is large enough for it.
+    // The extents belong to this paragraph, and the scratch space is large enough for it.
     ghost fits = { λ by kept part. IfSome part (CanBePut by kept) };
 
     ghost exchanged = { put_into };

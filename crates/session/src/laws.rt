@@ -16,11 +16,10 @@ ghost use Rattle.session.specs.declared.edits.Damage.{Damage};
 use bidi::paragraphs_are_pieces;
 use lines::{Laid, clusters_adjoin, lines_are_ordered, runs_adjoin, runs_have_all_columns};
 
-/// States, as a theorem, that a text split at a paragraph boundary is laid out as its two parts are, for
-/// any tables, options and width. The layouts of the text are those of the first part, followed by those of
-/// the second part. If the text is measured, each part has the advances of its characters. The same holds
-/// for what is printed. So the parts of a long text may be laid out in any order. Costs nothing at run
-/// time.
+/// States, as a theorem, that if a text is split at a paragraph boundary, its layouts are those of the first
+/// part, followed by those of the second part. This holds for any tables, options and width. If the text is
+/// measured, each part has the advances of its characters. The printed bytes can be split in the same way.
+/// So the parts of a long text may be laid out in any order. Costs nothing at run time.
 pub fn texts_are_laid_out_in_parts()
     ensures layouts { (rules : Rules) (width : ℕ) (front rest : List ℕ)
         → IsCutAt (cut_by rules) front rest

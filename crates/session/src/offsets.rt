@@ -1,5 +1,5 @@
-//! Converts positions to offsets in UTF-8 bytes or UTF-16 code units, and back. The sums in the store find
-//! the paragraph. A paragraph with as many units as characters is not scanned.
+//! Converts positions to offsets in UTF-8 bytes or UTF-16 code units, and back. The paragraph is found with
+//! the store's sums. A paragraph in which each character is one unit is not scanned.
 ghost use Rattle.std.specs.Prelude.{◌≡◌, ◌*◌, ◌<◌, ◌≤◌, List, ℕ, length, slice_index, sum_by, take};
 ghost use Rattle.session.specs.Kept.{text_of};
 ghost use Rattle.session.specs.Offsets.{before_in, length_in, offset_of, position_of, size_in};
@@ -11,8 +11,8 @@ use crate::borders::front;
 use crate::kept::Kept;
 use store::{Found, Measured, ParagraphStore};
 
-// The number of characters in a block. Its number of units fits in a `u32`, so vector instructions can add
-// four numbers at a time.
+// The number of characters in a block. The number of units in a block fits in a `u32`, so vector instructions
+// can add four numbers at a time.
 const BLOCK: usize = 65_536;
 
 /// An encoding whose code units are counted.

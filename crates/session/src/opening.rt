@@ -58,8 +58,8 @@ fn split_first<'a>(engine: &Engine, text: &'a str) -> (&'a str, &'a str)
     }
 }
 
-// Copies a list if much of its capacity is unused. Shrinking it would split its memory, so that a list of the
-// same length could not use this memory again.
+// Copies a list if much of its capacity is unused. Shrinking the list in place would split its memory block,
+// so the next list of that capacity could not reuse the block.
 fn fitted(alloc: Global, list: Vec<char>) -> Result<Vec<char>, AllocError>
     ensures { IfOk result (λ fitted. fitted.items ≡ list.items) }
 {
@@ -95,7 +95,7 @@ fn append<S: ParagraphStore<Kept>>(store: &mut S, new: Vec<Kept>) -> Result<(), 
     }
 }
 
-// Appends layouts to a store if they make up a batch. Returns the layouts that were not appended.
+// Appends layouts to a store if there are enough for a batch. Returns the layouts that were not appended.
 fn append_batch<S: ParagraphStore<Kept>>(
     alloc: Global,
     store: &mut S,
@@ -111,7 +111,8 @@ fn append_batch<S: ParagraphStore<Kept>>(
     Ok(Vec::new(alloc))
 }
 
-// Replaces a list with the advances of a new paragraph of `len` characters: one 0 for each if it is measured.
+// Fills a list with the advances of a new paragraph of `len` characters: all are 0. Does nothing if the
+// paragraph is not measured.
 fn zeros(list: Vec<u32>, is_measured: bool, len: usize) -> Result<Vec<u32>, AllocError>
     ensures { IfOk result (λ list. given_if is_measured list.items ≡ first_advances is_measured len) }
 {
@@ -144,7 +145,7 @@ fn lay_out_new(
     lay_out_one(alloc, engine, &part, form)
 }
 
-// Does the same as `lay_out_new` with characters and advances that move into the layout.
+// Like `lay_out_new`, but moves the characters and the advances into the layout.
 fn lay_out_moved(
     alloc: Global,
     engine: &mut Engine,

@@ -17,9 +17,9 @@ use store::ParagraphStore;
 pub struct CharReasons {
     /// The position at which the character's paragraph starts.
     pub paragraph_start: usize,
-    /// The reason for the level (UAX #9), with positions in the paragraph.
+    /// The reason for the level (UAX #9). Its positions are counted from the start of the paragraph.
     pub level: LevelReason,
-    /// The reason for the break mark after the character (UAX #14), with positions in the paragraph.
+    /// The reason for the break mark after the character (UAX #14). Its positions are counted likewise.
     pub mark: Reason,
 }
 

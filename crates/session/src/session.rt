@@ -345,8 +345,8 @@ impl<S: ParagraphStore<Kept>> Session<S> {
     ///
     /// Reads back to the nearest place where a cluster ends regardless of other characters, such as before
     /// most letters and emoji, and forward to the next such place. In the worst case, such as a paragraph of
-    /// flags, reads the whole paragraph. Allocates a copy of these characters if there is more than one. Can
-    /// fail only at a character, if memory runs out.
+    /// flags, reads the whole paragraph. Allocates a copy of these characters if there is more than one.
+    /// Fails only if memory runs out, and never past the last character.
     pub fn cluster(&self, pos: usize) -> Result<Option<Cluster>, AllocError>
         ensures ok { IfOk result (λ cluster. cluster ≡ cluster_at self.now.kept pos) }
         ensures memory { OnErr result (pos < length (text_at self.now)) }
@@ -388,11 +388,11 @@ impl<S: ParagraphStore<Kept>> Session<S> {
     }
 
     /// Returns how the algorithms arrive at the level of the character at a position and at the break mark
-    /// after it. Returns `None` past the last character. The tables' Unicode version and the session's options
-    /// decide the rules. A `level` before L1 can differ from that of the line.
+    /// after it. Returns `None` past the last character. The rules depend on the Unicode version of the
+    /// tables and on the session's options. The level is the one before L1; the level in the line can differ.
     ///
     /// Needs time and memory proportional to the length of the paragraph: some 500 bytes for each character.
-    /// The work counters stay.
+    /// Does not change the work counters.
     pub fn reasons(&self, pos: usize) -> Result<Option<CharReasons>, AllocError>
         ensures ok { IfOk result (λ reasons. reasons
             ≡ reasons_at (rules_of self.now.engine) self.now.kept pos) }
@@ -678,7 +678,7 @@ impl<S: ParagraphStore<Kept>> Session<S> {
         )
     }
 
-    /// Sets the width, in columns, and rewraps every paragraph. A paragraph of one line stays as it is if the
+    /// Sets the width, in columns, and rewraps every paragraph. A paragraph of one line is unchanged if the
     /// line fits and, with `show_spaces`, no space that would fit is hidden. Every other paragraph is filled
     /// and written once. In a measured session, the width is in the caller's unit.
     pub fn set_width(&mut self, width: u16) -> Result<Damage, EditFault>
@@ -868,8 +868,8 @@ impl<S: ParagraphStore<Kept>> Session<S> {
         let _ = &self.engine;
     }
 
-    /// Executes edits in order. A refused edit changes nothing. Stops at an edit that is not refused if an
-    /// allocation fails. The work counters increase by at most the sum of the edits' bounds, including the
+    /// Executes edits in order. A refused edit changes nothing. Stops at the first edit that fails because
+    /// memory runs out. The work counters increase by at most the sum of the edits' bounds, including the
     /// bound of the edit that failed.
     pub fn run(&mut self, edits: &[Edit<'_>]) -> Result<(), AllocError>
         ensures ok { OnOk result (held_at self.new

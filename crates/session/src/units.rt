@@ -15,8 +15,8 @@ use crate::clusters::Cluster;
 use crate::hits::logical;
 use lines::VisualLine;
 
-/// A unit that a caret moves over on a line in one step. Indices and columns are counted from the start of
-/// the line's shown part.
+/// A unit that a caret moves over on a line in one step. Indices are counted from the line's first character,
+/// and columns from the left edge of the line's shown part.
 #[derive(Clone, Copy, Debug, PartialEq, Eq)]
 pub struct CaretUnit {
     /// The index of the unit's first character.
@@ -70,7 +70,7 @@ fn run_begin(line: &VisualLine<'_>, k: usize) -> usize
     0
 }
 
-// Returns the character after the last one of the level run of character `k`.
+// Returns the index after the last character of the level run of character `k`.
 fn run_end(line: &VisualLine<'_>, k: usize) -> usize
     ensures value { result ≡ run_end line.now k }
     ensures most { result ≤ length line.now.levels }
@@ -87,7 +87,7 @@ fn run_end(line: &VisualLine<'_>, k: usize) -> usize
     len
 }
 
-// Returns the character after the shown part of a cluster, on a line that starts at the position `start`.
+// Returns the index after the shown part of a cluster, on a line that starts at the position `start`.
 fn shown_end(line: &VisualLine<'_>, start: usize, cluster: Cluster) -> usize
     ensures value { result ≡ shown_end line.now start cluster }
     ensures fits { result < 2 ^ 63 }
@@ -107,7 +107,7 @@ fn unit_start(line: &VisualLine<'_>, start: usize, cluster: Cluster, k: usize) -
     }
 }
 
-// Returns the character after the last one of the unit of character `k`, which takes columns.
+// Returns the index after the last character of the unit of character `k`, which takes columns.
 fn unit_end(line: &VisualLine<'_>, start: usize, cluster: Cluster, k: usize) -> usize
     ensures value { result ≡ unit_end line.now start cluster k }
     ensures fits { result < 2 ^ 63 }
@@ -127,7 +127,8 @@ fn is_in_unit(line: &VisualLine<'_>, first: usize, end: usize, place: usize) -> 
     first <= k && k < end && takes_columns(line, k)
 }
 
-// Returns the position after the rightmost of the characters from `first` up to `end` that take columns.
+// Returns the visual position after the rightmost character from `first` up to `end` that takes columns, or 0
+// if there is none.
 fn after_rightmost(line: &VisualLine<'_>, first: usize, end: usize) -> usize
     ensures { result ≡ after (greatest (is_in_unit line.now first end) (length line.now.vtol)) 0 }
 {
@@ -141,7 +142,7 @@ fn after_rightmost(line: &VisualLine<'_>, first: usize, end: usize) -> usize
     0
 }
 
-// Returns the column of the leading end of a unit of the characters from `first` up to `end`.
+// Returns the column of the leading end of the unit of the characters from `first` up to `end`.
 fn leading_of(line: &VisualLine<'_>, level: u8, first: usize, end: usize) -> usize
     ensures column { result ≡ leading_of line.now level first end }
     ensures fits { result < 2 ^ 63 }

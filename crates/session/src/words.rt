@@ -16,8 +16,8 @@ pub struct Word {
     pub start: usize,
     /// The position after the segment's last character.
     pub end: usize,
-    /// Whether the segment has an alphabetic or numeric character. If not, it consists of spaces or
-    /// punctuation.
+    /// Whether the segment has an alphabetic or numeric character. If not, it consists of other characters,
+    /// such as spaces, punctuation or symbols.
     pub has_letter: bool,
 }
 

@@ -172,14 +172,14 @@ fn refill(alloc: Global, engine: &mut Engine, laid: &Laid, width: u16) -> Result
     Ok(engine.refill(alloc, laid, u32::from(width))?)
 }
 
-// Returns whether the engine has counted these numbers of analysed and filled characters, and as many written
-// characters as filled ones.
+// Returns whether the engine has counted these numbers of analysed and filled characters, and whether the
+// number of written characters equals the number of filled characters.
 fn counts(engine: &Engine, analysed: u64, filled: u64) -> bool {
     engine.analysed() == analysed && engine.filled() == filled && engine.written() == filled
 }
 
-// Returns whether a paragraph has the right lines after its lines are exchanged for those at another width,
-// and again after the exchange is undone.
+// Exchanges a paragraph's lines for those at another width, and back. Returns whether the lines are
+// right before and after each exchange.
 fn exchanges(
     alloc: Global,
     engine: &mut Engine,

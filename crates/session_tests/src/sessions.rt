@@ -196,7 +196,7 @@ impl Write for Taker<'_> {
 // The size of the buffer for one printed text.
 const PAGE: usize = 131_072;
 
-// Allocates a buffer for two printed texts.
+// Allocates a buffer of `count` bytes for printed texts, and tries again after an allocation failure.
 fn pages(alloc: Global, count: usize) -> Result<Vec<u8>, AllocError> {
     match vec![in alloc; 0; count] {
         Ok(bytes) => Ok(bytes),

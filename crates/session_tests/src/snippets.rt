@@ -1,5 +1,5 @@
-//! The examples in the first lines of `device`, `lines` and `session`. `tests/docs/run` checks that they are
-//! here.
+//! The examples in the crate documentation of `device`, `lines` and `session`. `tests/docs/run` checks that
+//! this file contains them.
 use crate::files::{FILES, engine};
 use device::{ToWrite, write_all};
 use lines::{Engine, Laid, Options, PARAGRAPH_LIMIT};

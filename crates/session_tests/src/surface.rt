@@ -434,8 +434,8 @@ enum Call {
 }
 
 // Returns whether the example of a call holds in a session on "ab\ncd\nef", of 80 columns. Returns `false`
-// after an allocation failure. Only the functions below that open a session name its store, since each
-// function that names it is slow to prove.
+// after an allocation failure. Only the functions below that open a session name a store, since each
+// function that names a store is slow to prove.
 fn holds(alloc: Global, call: Call) -> bool {
     match open(alloc, "ab\ncd\nef", 80) {
         Ok(session) => holds_in(session, call),

@@ -96,7 +96,7 @@ set_one [] y l = absurd (omega arith)
 set_one (x ∷ []) y l = refl
 set_one (x ∷ z ∷ xs) y l = absurd (omega arith)
 
--- increasing a count by n and then by m increases it by n + m
+-- increasing a saturating count by n and then by m is the same as increasing it by n + m
 pub raised_twice : (count n m k once twice : ℕ) → once ≡ raised count n → twice ≡ raised once m → k ≡ n + m → twice ≡ raised count k
 raised_twice count n m k once twice first second sum = omega (arith, first, second, sum)
 
@@ -132,8 +132,8 @@ module _ {P Part : Type 0} (fits : P → Part → Type 0) (xs : List P) (x : P) 
       ap (pairwise f (xs ++ x ∷ ys)) p.all_is ∙ pairwise-append f xs (x ∷ ys) ps rest p.front_len
       ∙ ap (λ zs. pairwise f xs ps ++ pairwise f (x ∷ ys) zs) p.rest_is ∙ ap (λ zs. pairwise f xs ps ++ zs) (pairwise_one f x ys one qs d p.one_len)
 
-  -- the sum over a node's items is the sum of the left subtree, the size of the node's own item, and the sum
-  -- of the right subtree
+  -- the sum over a node's items is the sum over its left subtree, plus the size of its own item, plus the sum
+  -- over its right subtree
   pub sum_parts : {A : Type 0} (size : A → ℕ) (f : P → Part → A) {all : List Part} (d : Part) → AreParted all
       → sum_by size (pairwise f (xs ++ x ∷ ys) all) ≡ sum_by size (pairwise f xs ps) + (size (f x (get_or one 0 d)) + sum_by size (pairwise f ys qs))
   sum_parts size f d p =

@@ -23,7 +23,7 @@ module _ {P : Type 0} (G : Ghosts P) (unit : Counted) where
         utf16_before = is.sums.each Utf16 ∙ ap (sum_by G.utf16) (sym front);
       }
 
-  -- an item is at the place that the items before it determine
+  -- `IsPlace` holds if the place's index, rest and sums follow from the items before the found item
   pub place_of : (before : List P) (item : P) (after items : List P) (n : ℕ) (g : Place) → items ≡ before ++ item ∷ after → g.index ≡ length before
       → sum_by (measure G unit) before + g.rest ≡ n → g.rest < measure G unit item → AreSums G before g.before → IsPlace G unit items n g
   place_of before item after items n g place_is index_is rest_is within_is sums_are = record {
@@ -60,7 +60,7 @@ module _ {P : Type 0} (G : Ghosts P) (unit : Counted) where
     at_item n g index_is rest_is within_is sums_are =
         place_of l x r (l ++ x ∷ r) n g (λ i. l ++ x ∷ r) index_is rest_is within_is sums_are
 
-    -- the sums of the items before a place after x fit
+    -- if the sums of all items fit, so do the sums of the items before a place after x
     pub before_fit : (k : ℕ) (f : Place) (found : IsPlace G unit r k f) → SumsFit G (l ++ x ∷ r) → SumsFit G (l ++ x ∷ found.finds.before)
     before_fit k f found fit =
         let at = found.finds in

@@ -5,7 +5,7 @@ use Rattle.store.specs.Trees.{Tree, Fork, in_order}
 use Rattle.store.specs.declared.measured.Measured.{Ghosts}
 use Rattle.store.proofs.FitsLemmas.{fits_front, fits_rest}
 
--- the items of a tree are those before the root of an inner subtree, that root's item, and those after it
+-- if m is the root of an inner subtree, the tree's items are the items before m, m itself, and those after m
 pub lifted : {P : Type 0} (l r : List P) (x y m : P) (inner first second : Tree P) → inner ≡ Fork first m second
     → (l ++ x ∷ in_order inner) ++ y ∷ r ≡ (l ++ x ∷ in_order first) ++ m ∷ (in_order second ++ y ∷ r)
 lifted l r x y m inner first second e =

@@ -28,14 +28,15 @@ module _ {A : Type 0} where
       let e : j - i ≤ length (drop i xs) = omega (arith, length-drop i xs) in
       length-take-le (j - i) (drop i xs) e
 
-  -- rotating the items of a list from an index on exchanges the two parts after that index
+  -- rotating the suffix b ++ c of the list a ++ b ++ c gives a ++ c ++ b
   pub rotated : (a b c xs : List A) (i j : ℕ) → xs ≡ a ++ (b ++ c) → i ≡ length a → j ≡ length a + length b
       → take i xs ++ (drop j xs ++ slice_range xs i j) ≡ a ++ (c ++ b)
   rotated a b c xs i j e f g =
       let n : length a + length b - length a ≡ length b = omega arith in
       rw (e, f, g, n) (simp (take-append_seam, drop-append-add, drop-append_seam))
 
-  -- `replace` on a list: the new items are appended, and then rotated to their place
+  -- `replace` on a list: append the new items, rotate the old items to the end, split them off, and rotate
+  -- the new items to their place
   pub replaced : (xs ys all turned kept moved result : List A) (i j n : ℕ) → i ≤ j → j ≤ length xs → n + length ys ≡ length kept → all ≡ xs ++ ys
       → turned ≡ take i all ++ (drop j all ++ slice_range all i j)
       → kept ≡ take (length turned - (j - i)) turned → moved ≡ drop (length turned - (j - i)) turned
@@ -58,7 +59,7 @@ module _ {A : Type 0} where
       omega (arith, ap length kept_parts, length-append a (c ++ ys), length-append c ys) in
       (result_is ∙ rotated a c ys kept i n kept_parts (sym la) end_is, moved_parts)
 
-  -- if the first k items of a list are copied over another list, copying item k extends the copy to k + 1 items
+  -- if the first k items of a list are copied over another list, copying item k extends the copy by one item
   pub set_next : (made xs now : List A) (k : ℕ) (y : A) → length made ≡ length xs → k < length xs
       → now ≡ take k made ++ drop k xs → y ≡ get_or made k y → set now k y ≡ take (k + 1) made ++ drop (k + 1) xs
   set_next made xs now k y l h now_is y_is =
@@ -89,7 +90,7 @@ module _ {A : Type 0} where
   overwritten now old n l n_is =
       ap (λ ys. take n (now ++ ys)) (drop_of_length-le old (omega arith)) ∙ ap (λ ys. take n ys) (append-nil now) ∙ take_all n now (omega arith)
 
-  -- items are taken from the end of a list in three steps: some, one more, and some more
+  -- taking b items, then one, and then r items from the end of a list takes its last b + 1 + r items
   pub taken : (xs front rest : List A) (top : A) (m b r : ℕ) → b + 1 + r ≡ m → m ≤ length xs → take (length xs - b) xs ≡ front
       → front ≡ rest ++ top ∷ []
       → (length rest + 1 ≡ length xs - b) × (take (length rest - r) rest ≡ take (length xs - m) xs)
@@ -141,7 +142,7 @@ sum_around_splice f xs i j ys h =
 pub sum_of_splice : {A : Type 0} (f : A → ℕ) (xs : List A) (i j : ℕ) (ys : List A) → i ≤ j → sum_by f (splice xs i j ys) ≤ sum_by f xs + sum_by f ys
 sum_of_splice f xs i j ys h = omega (arith, sum_around_splice f xs i j ys h)
 
--- the sum over the new items is at most the sum over the list with them
+-- the sum over the new items is at most the sum over the list that contains them
 pub splice_within : {A : Type 0} (f : A → ℕ) (xs : List A) (i j : ℕ) (ys : List A) → sum_by f ys ≤ sum_by f (splice xs i j ys)
 splice_within f xs i j ys = omega (arith, sum_by-append f (take i xs) (ys ++ drop j xs), sum_by-append f ys (drop j xs))
 

@@ -6,7 +6,7 @@ use Rattle.store.specs.Trees.{Tree, Fork, in_order, height, IsBalanced}
 use Rattle.store.specs.declared.measured.Measured.{Ghosts}
 use Rattle.store.specs.declared.subtree.Node.{Node}
 
--- whether a tree is balanced, and has the same height and item count as another
+-- whether the new tree is balanced, and has the same height and number of items as the old tree
 pub record IsLike {P : Type 0} (old new : Tree P) : Type 0 where
   pub balanced : IsBalanced new
   pub height_is : height new ≡ height old

@@ -11,7 +11,7 @@ use Rattle.store.specs.declared.sums.Unit.TheVariants.{Char, Line, Byte, Utf16}
 use Rattle.store.proofs.ExchangeLemmas.{same_sum}
 use Rattle.store.proofs.ListLemmas.{range_within, sum_around_splice}
 
--- whether all sums are numbers that fit
+-- whether all sums fit in a `usize`
 abbrev pub AreBounded : Sums → Type 0
 AreBounded sums = (unit : Counted) → part sums unit < 2 ^ 64
 
@@ -19,16 +19,16 @@ AreBounded sums = (unit : Counted) → part sums unit < 2 ^ 64
 abbrev pub AreSizes : {P : Type 0} → Ghosts P → P → Sums → Type 0
 AreSizes G x sums = (unit : Counted) → part sums unit ≡ measure G unit x
 
--- whether the last sums are the first two, added
+-- whether `sums` is `a` plus `b` in each unit
 abbrev pub AreAdded : Sums → Sums → Sums → Type 0
 AreAdded a b sums = (unit : Counted) → part sums unit ≡ part a unit + part b unit
 
 module _ {P : Type 0} (G : Ghosts P) where
-  -- if the sums are given as bounded numbers, they fit
+  -- if the stored sums of a list fit in a `usize`, `SumsFit` holds for the list
   pub fit_by : (items : List P) (sums : Sums) → AreSums G items sums → AreBounded sums → SumsFit G items
   fit_by items sums are fit = record { each = λ (u : Counted). omega (arith, are.each u, fit u) }
 
-  -- ---- the sums of items, of one more item, and of the items after it
+  -- ---- the sums of a list that is split at item x
   module _ (xs : List P) (x : P) (ys : List P) (a b c d e : Sums) (front : AreSums G xs a) (one : AreSizes G x b) where
     pub first_fit : SumsFit G (xs ++ x ∷ ys) → (u : Counted) → part a u + part b u < 2 ^ 64
     first_fit all u = omega (arith, all.each u, front.each u, one u, sum_by-append (measure G u) xs (x ∷ ys), sum_by-cons (measure G u) x ys)
@@ -73,7 +73,7 @@ module _ {P : Type 0} (G : Ghosts P) where
       each = λ (u : Counted). omega (arith, kept.each u, old.each u, new.each u, less u, more u, old_within u, sum_around_splice (measure G u) xs i j ys ordered);
     }
 
-  -- sums fit if they fit in each unit
+  -- `SumsFit` follows from the bounds of the four units
   pub fit_each : (items : List P) → sum_by G.chars items < 2 ^ 64 → sum_by G.lines items < 2 ^ 64 → sum_by G.bytes items < 2 ^ 64 → sum_by G.utf16 items < 2 ^ 64
       → SumsFit G items
   fit_each items chars lines bytes utf16 = record {

@@ -1,4 +1,4 @@
--- Exchanging one item of a tree for another: where the item is, and the sums that follow.
+-- Exchanging one item of a tree for another: the position of the item, and the resulting sums.
 use Rattle.std.proofs.Common.{◌≡◌, ℕ, suc, ◌+◌, ◌-◌, ◌^◌, ◌<◌, ◌≤◌, List, [], ◌∷◌, ◌++◌, length, take, drop, get_or, slice_range, sum_by, Some, refl, ap, ap₂, sym, ◌∙◌, subst, arith, append_assoc, length-drop}
 use Rattle.std.specs.List.{slice_get, slice_set, splice}
 use Rattle.std.proofs.Math.Seq.{take-append_seam, drop-append_seam, take-append-add, drop-append-add}
@@ -22,20 +22,20 @@ abbrev pub swapped : {A : Type 0} → List A → ℕ → A → List A
 swapped xs i y = splice xs i (i + 1) (y ∷ [])
 
 module _ {A : Type 0} where
-  -- the range of one item contains this item alone
+  -- the range from i to i + 1 contains only item i
   pub range_at : (xs : List A) (i : ℕ) (x : A) → slice_get xs i ≡ Some x → slice_range xs i (i + 1) ≡ x ∷ []
   range_at xs i x e =
       let n : i + 1 - i ≡ 1 = omega arith in
       ap (λ (m : ℕ). take m (drop i xs)) n ∙ ap (λ ys. take 1 ys) (drop_more xs i x (slice_get_within xs i x e))
       ∙ ap (λ y. y ∷ []) (get_or_from_slice_get xs i x x e)
 
-  -- a list of one item
+  -- a list of length 1 consists of its first item
   pub only : (xs : List A) (x : A) → length xs ≡ 1 → x ≡ get_or xs 0 x → xs ≡ x ∷ []
   only [] x l e = absurd (omega arith)
   only (y ∷ []) x l e = ap (λ z. z ∷ []) (sym e)
   only (y ∷ z ∷ zs) x l e = absurd (omega arith)
 
-  -- a list of two items
+  -- a list of length 2 consists of its first two items
   pub both : (xs : List A) (x y z : A) → length xs ≡ 2 → x ≡ get_or xs 0 x → y ≡ get_or (slice_set xs 0 z) 1 y → xs ≡ x ∷ y ∷ []
   both [] x y z l e f = absurd (omega arith)
   both (v ∷ []) x y z l e f = absurd (omega arith)
@@ -52,7 +52,7 @@ module _ {A : Type 0} where
   first_of [] x l e = absurd (omega arith)
   first_of (v ∷ xs) x l e = ap (λ z. z ∷ []) (sym e)
 
-  -- two adjacent items exchanged, one after the other
+  -- exchanging two adjacent items one after the other replaces the range of both
   module _ (xs : List A) (i : ℕ) (within : i + 2 ≤ length xs) (x y : A) where
     size : length (take i xs) ≡ i
     size = length-take-le i xs (omega (arith, within))
@@ -82,7 +82,7 @@ module _ {A : Type 0} where
         let b : w ∷ [] ≡ take 1 (drop (i + 1) xs) = second ∙ ap₂ take one_2 past_first in
         ap₂ (λ zs ws. get_or zs 0 v ∷ ws) a b ∙ sym (ap₂ take two whole)
 
-  -- the exchanged item among a node's items is before the node's own item, is that item itself, or is after it
+  -- three cases: the exchanged item is before the node's own item x, is x itself, or is after x
   module _ (l r : List A) (x y : A) (i : ℕ) where
     pub swapped_before : i < length l → swapped (l ++ x ∷ r) i y ≡ swapped l i y ++ x ∷ r
     swapped_before h =
@@ -120,18 +120,18 @@ module _ {A : Type 0} where
         ap (λ (m : ℕ). take m (drop i (l ++ x ∷ r))) n ∙ ap (λ zs. take (k + 1 - k) zs) back
 
 module _ {P : Type 0} (G : Ghosts P) where
-  -- the sizes of an item are the sums of the list with this item alone
+  -- the sizes of an item are the sums of the list that contains only this item
   pub one_sum : (x : P) (sums : Sums) → AreSizes G x sums → AreSums G (x ∷ []) sums
   one_sum x sums are = record { each = λ (u : Counted). omega (arith, are u, sum_by-cons (measure G u) x []) }
 
-  -- if the sums of a node's items fit after an exchange, so do those of the part in which the item is
+  -- if the sums of a node's items fit after an exchange, so do the sums of the subtree with the new item
   pub fit_before : (l r : List P) (x y : P) (i : ℕ) → i < length l → SumsFit G (swapped (l ++ x ∷ r) i y) → SumsFit G (swapped l i y)
   fit_before l r x y i h f =
       sums_less G (swapped (l ++ x ∷ r) i y) (swapped l i y)
       (λ (size : P → ℕ). omega (arith, ap (sum_by size) (swapped_before l r x y i h), sum_by-append size (swapped l i y) (x ∷ r)))
       f
 
-  -- if one more item fits, it fits in place of another one
+  -- if the sums fit with x appended, they fit with x in place of another item
   pub fit_first : (xs ys : List P) (i : ℕ) (x : P) → length ys ≡ 2 → x ≡ get_or ys 0 x → SumsFit G (xs ++ take 1 ys) → SumsFit G (swapped xs i x)
   fit_first xs ys i x two is f = record {
     each = λ (u : Counted).
@@ -146,8 +146,8 @@ module _ {P : Type 0} (G : Ghosts P) where
       omega (arith, ap (sum_by size) (swapped_after l r x y i k e), sum_by-append size l (x ∷ swapped r k y), sum_by-cons size x (swapped r k y)))
       f
 
--- A node whose item at an index is exchanged for y: the sizes of the old and of the new item are known, and the
--- sums fit.
+-- What is assumed when item i of a node's tree is exchanged for y: `less` and `more` are the sizes of the old
+-- and the new item, and the new sums fit.
 pub record Swaps {P : Type 0} (G : Ghosts P) (n : Node P) (i : ℕ) (y : P) (less more : Sums) : Type 0 where
   pub summed : IsSummed G n
   pub within : i < length (in_order (tree_of_node n))
@@ -156,7 +156,7 @@ pub record Swaps {P : Type 0} (G : Ghosts P) (n : Node P) (i : ℕ) (y : P) (les
   pub fit : SumsFit G (swapped (in_order (tree_of_node n)) i y)
 
 module _ {P : Type 0} (G : Ghosts P) where
-  -- the exchange in a tree is one in its root
+  -- an exchange in a tree is an exchange in its root node
   pub swaps_in : (tree : Tree P) (n : Node P) (i : ℕ) (y : P) (less more : Sums) → tree ≡ tree_of_node n → IsSummed G n → i < length (in_order tree)
       → AreSums G (slice_range (in_order tree) i (i + 1)) less → AreSums G (y ∷ []) more → SumsFit G (swapped (in_order tree) i y) → Swaps G n i y less more
   swaps_in tree n i y less more e summed within less_are more_are fit = record {
@@ -181,7 +181,7 @@ module _ {P : Type 0} (G : Ghosts P) where
     swap_more rest is =
         new_fit G items (y ∷ []) i (i + 1) (omega arith) n.sums less more rest rest s.summed.sums_are s.less_are s.more_are is s.fit
 
-    -- a node with its sums corrected and its items exchanged is summed correctly
+    -- `IsSummed` still holds after a node's item has been exchanged and its sums have been corrected
     pub swap_summed : (m : Node P) (rest : Sums) → IsLess rest → AreAdded rest more m.sums → IsLike n.left m.left → IsLike n.right m.right
         → m.height ≡ n.height → m.count ≡ n.count → in_order (tree_of_node m) ≡ swapped items i y → IsSummed G m
     swap_summed m rest less_is more_is l r h k items_are =
@@ -189,7 +189,7 @@ module _ {P : Type 0} (G : Ghosts P) where
         (subst (λ xs. AreSums G xs m.sums) (sym items_are)
         (new_are G items (y ∷ []) i (i + 1) (omega arith) n.sums less more rest m.sums s.summed.sums_are s.less_are s.more_are less_is more_is))
 
-    -- each subtree is like itself
+    -- `IsLike` is reflexive
     pub same_left : IsLike n.left n.left
     same_left = record { balanced = s.summed.balanced.0; height_is = refl; count_is = refl }
 

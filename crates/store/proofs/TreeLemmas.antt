@@ -29,8 +29,8 @@ fewest_rises : (h : ℕ) → fewest_nodes h ≤ fewest_nodes (suc h)
 fewest_rises zero = omega arith
 fewest_rises (suc h) = omega arith
 
--- if the heights of two subtrees differ by at most 1, the least number of nodes of their tree is at most one
--- more than the sum of theirs
+-- if a is b or b + 1, the smallest balanced tree of height a + 1 has at most one node more than the smallest
+-- balanced trees of heights a and b together
 fewest_over : (a b : ℕ) → b ≤ a → a ≤ b + 1 → fewest_nodes (suc a) ≤ fewest_nodes a + fewest_nodes b + 1
 fewest_over zero b h k = omega arith
 fewest_over (suc a) b h k = elim (eq-or-lt_of_le h) [

@@ -1,4 +1,4 @@
--- Exchanging the parts of items pairwise in order, and counting the work.
+-- Exchanges of parts: item i is paired with part i. The costs of all exchanges are added up.
 use Rattle.std.specs.Prelude.{ℕ, ◌+◌, ◌-◌, ◌^◌, List, map, max, min, sum_by}
 use Rattle.std.specs.List.{zip}
 

@@ -1,4 +1,4 @@
--- The result of a search in a list of items: the item that contains a character, line, byte or UTF-16 code unit.
+-- The result of a search in a list of items: the item that contains a character, line, byte or code unit.
 use Rattle.std.specs.Prelude.{◌≡◌, ℕ, ◌+◌, ◌<◌, List, ◌∷◌, ◌++◌, length, take, sum_by}
 use Rattle.store.specs.Sums.{measure, AreSums}
 use Rattle.store.specs.declared.found.Found.{Found}
@@ -31,7 +31,7 @@ pub record CountsBefore {P : Type 0} (bytes utf16 : P → ℕ) (items : List P) 
   pub bytes_before : found.bytes_before ≡ sum_by bytes (take found.index items)
   pub utf16_before : found.utf16_before ≡ sum_by utf16 (take found.index items)
 
--- a place as the result of a search
+-- converts a place to a search result
 abbrev pub found_at : Place → Found
 found_at place = record {
   index = place.index;
@@ -43,12 +43,12 @@ found_at place = record {
   visits = place.visits;
 }
 
--- whether a search in a unit finds the place, including all sums of the items before it
+-- whether a search for number n in a unit finds the place, and the place has the sums of the items before it
 pub record IsPlace {P : Type 0} (G : Ghosts P) (unit : Counted) (items : List P) (n : ℕ) (place : Place) : Type 0 where
   pub finds : Finds (measure G unit) G.chars G.lines items n (found_at place)
   pub sums : AreSums G finds.before place.before
 
--- whether a place is the start of the item at an index, including all sums of the items before it
+-- whether the place is the start of the item at an index, and has the sums of the items before it
 pub record IsItemPlace {P : Type 0} (G : Ghosts P) (items : List P) (index : ℕ) (place : Place) : Type 0 where
   pub index_is : place.index ≡ index
   pub rest : place.rest ≡ 0

@@ -19,7 +19,7 @@ part sums Line = sums.lines
 part sums Byte = sums.bytes
 part sums Utf16 = sums.utf16
 
--- whether these are the sums of the items
+-- whether `sums` are the sums of the items, in each unit
 pub record AreSums {P : Type 0} (G : Ghosts P) (items : List P) (sums : Sums) : Type 0 where
   pub each : (unit : Counted) → part sums unit ≡ sum_by (measure G unit) items
 

@@ -1,4 +1,4 @@
--- Binary trees of items, balanced trees, and the minimum number of nodes of a balanced tree of a given height.
+-- Binary trees of items, balanced trees, and the minimum number of nodes of a balanced tree of some height.
 use Rattle.std.specs.Prelude.{◌≡◌, ℕ, zero, suc, ◌+◌, ◌-◌, ◌≤◌, nat_lt, max, List, [], ◌∷◌, ◌++◌, length, Option, Some, None, refl, if◌then◌else◌}
 use Rattle.std.proofs.Common.{ap, ◌∙◌}
 use Rattle.std.specs.Coded.{Coded, code_by, coded_list, coded_option}
@@ -30,7 +30,7 @@ module _ {A : Type 0} where
       let n = length (in_order l) in
       (if nat_lt i n then nodes_to l i + 1 else (if nat_lt n i then nodes_to r (i - n - 1) + 1 else 1))
 
-  -- a tree as a list, where each node comes after its two subtrees, and an empty tree is `None`
+  -- the items of a tree in postorder, with `None` for each empty subtree
   abbrev pub listed : Tree A → List (Option A)
   listed Empty = None ∷ []
   listed (Fork l x r) = listed l ++ (listed r ++ Some x ∷ [])

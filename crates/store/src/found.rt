@@ -33,7 +33,7 @@ pub(crate) struct Place {
 }
 
 impl Place {
-    /// Returns the place as the result of a search.
+    /// Converts the place to a search result.
     pub(crate) fn found(self) -> Found
         ensures { result ≡ found_at self }
     {

@@ -59,8 +59,8 @@ fn balance<P: Measured>(left: Subtree<P>, node: DetachedNode<P>, right: Subtree<
     node.over(left, right)
 }
 
-// Joins two trees, the left of which is higher by 2. Makes one rotation, or two if the inner side of the left
-// tree is higher than its outer side.
+// Joins two trees, the left of which is higher by 2. Makes one rotation, or two if the inner subtree of the
+// left tree is higher than its outer subtree.
 fn lean_left<P: Measured>(left: Subtree<P>, node: DetachedNode<P>, right: Subtree<P>) -> Subtree<P>
     requires fits { Fits P.Measured (in_order left ++ node ∷ in_order right) }
     requires two_higher { height left ≡ height right + 2 }
@@ -94,8 +94,8 @@ fn lean_right<P: Measured>(left: Subtree<P>, node: DetachedNode<P>, right: Subtr
     lift(left, node, inner, top, outer)
 }
 
-// Makes two rotations. The middle tree is higher by 1 than the trees on both sides of it. The root of the
-// middle tree becomes the root of the joined tree.
+// Joins three trees by a double rotation. The middle tree is higher by 1 than each of the other two, and its
+// root becomes the root of the joined tree.
 fn lift<P: Measured>(
     left: Subtree<P>,
     before: DetachedNode<P>,
@@ -144,7 +144,7 @@ fn take_first<P: Measured>(tree: Subtree<P>) -> Option<(DetachedNode<P>, Subtree
     Some((first, join(rest, top, right)))
 }
 
-// Joins two trees.
+// Joins two trees. The first item of the right tree becomes the item between them.
 fn append<P: Measured>(left: Subtree<P>, right: Subtree<P>) -> Subtree<P>
     requires { Fits P.Measured (in_order left ++ in_order right) }
     ensures { in_order result ≡ in_order left ++ in_order right }
@@ -184,8 +184,7 @@ fn build<P: Measured>(nodes: &mut Vec<DetachedNode<P>>, count: usize) -> Subtree
     join(left, top, right)
 }
 
-/// Replaces the items of a range with the nodes of a list in reverse order, and returns a tree of the old
-/// items.
+/// Replaces a range of items with the nodes of a list, in reverse order, and returns a tree of the old items.
 pub(crate) fn put_in<P: Measured>(
     tree: &mut Subtree<P>,
     first: usize,

@@ -12,7 +12,7 @@ use std::alloc::{AllocError, Global};
 use std::ops::Range;
 
 /// A list of items, with the sums of their characters, lines, bytes and code units. Only `replace` and `list`
-/// allocate, and only if there are items to list or to replace. No method drops or copies an item.
+/// allocate, and only if there are items to list, insert or remove. No method drops or copies an item.
 pub trait ParagraphStore<P: Measured> {
     // The items in order.
     ghost items: { Self → List P };

@@ -197,7 +197,7 @@ impl<P: Measured> DetachedNode<P> {
         Box::into_inner(self.node).into_item()
     }
 
-    /// Makes the node the root of two trees whose heights differ by at most 1.
+    /// Makes the node the root of a tree with the given subtrees, whose heights differ by at most 1.
     pub(crate) fn over(self, left: Subtree<P>, right: Subtree<P>) -> Subtree<P>
         requires fits { Fits P.Measured (in_order left ++ self ∷ in_order right) }
         requires near { (height left ≤ height right + 1) × (height right ≤ height left + 1) }

@@ -22,8 +22,8 @@ use std::marker::Model;
 use std::ops::Range;
 use std::{fmt, mem};
 
-/// A store that is a balanced tree: the heights of the two subtrees of a node differ by at most 1. Searches
-/// and `replace` go down from the root, so their time is proportional to the height.
+/// A store that is a balanced tree: the heights of the two subtrees of a node differ by at most 1. A search
+/// costs time proportional to the height. `replace` also costs time for each item that it inserts or removes.
 pub struct TreeStore<P: Measured> {
     root: Subtree<P>,
     alloc: Global,
@@ -106,7 +106,7 @@ impl<P: Measured> TreeStore<P> {
         self.root.swap_item(index, item, less, more);
     }
 
-    // Exchanges two adjacent items for the two items of a list, one after the other. Allocates nothing.
+    // Exchanges two adjacent items, one after the other, for the two items of a list. Allocates nothing.
     fn replace_two(&mut self, index: usize, items: &mut Vec<P>)
         requires within { index + 2 ≤ length (in_order self.old) }
         requires two { length items.old.items ≡ 2 }

@@ -82,7 +82,7 @@ fn find<P: Measured>(items: &[P], unit: Unit, n: usize) -> Place
     unreachable!()
 }
 
-// Finds the item at an index, by adding up the items before it.
+// Finds the item at an index, by adding up the sizes of the items before it.
 fn find_item<P: Measured>(items: &[P], index: usize) -> Place
     requires within { index < length items.now }
     requires fit { SumsFit P.Measured items.now }
@@ -124,8 +124,8 @@ fn rotate<P>(items: &mut Vec<P>, first: usize, second: usize)
     items[first..].rotate_left(start);
 }
 
-// Replaces the items in `first..second` with the new items, and moves the old items to `old`. Both lists have
-// enough capacity.
+// Replaces the items in `first..second` with the new items, and moves the old items to `old`. Both lists must
+// have enough capacity.
 fn put_in<P>(
     items: &mut Vec<P>,
     first: usize,

@@ -34,14 +34,14 @@ encoded-ascii (c ∷ cs) all =
     let parts = and_parts (is_ascii c) (list_all is_ascii cs) all in
     ap₂ ◌++◌ (encode_ascii c (ltb-true c 128 parts.0)) (encoded-ascii cs parts.1)
 
--- each character is below a bound that is above the highest one
+-- if no character is above `top`, all characters are below each bound above `top`
 pub all_below : (cs : List ℕ) (top bound : ℕ) → ((k : ℕ) → k < length cs → get_or cs k 0 ≤ top) → top < bound → list_all (λ c. nat_lt c bound) cs ≡ true
 all_below [] top bound most less = refl
 all_below (c ∷ cs) top bound most less =
     ap (λ b. b && list_all (λ d. nat_lt d bound) cs) (lt-ltb c bound (omega (arith, most 0 (omega arith), less)))
     ∙ all_below cs top bound (λ k within. most (suc k) (omega (arith, within))) less
 
--- a byte written at an index stays there, whatever is written after it
+-- a byte written at an index is not changed by writing a byte at the next index
 pub put_one : (bytes : List ℕ) (at a b : ℕ) → at + 1 < length bytes → take (at + 1) (set (set bytes at a) (at + 1) b) ≡ take at bytes ++ a ∷ []
 put_one bytes at a b room =
     take-set-le (at + 1) (set bytes at a) (at + 1) b (omega arith) ∙ take_more_set bytes at a (omega (arith, room))

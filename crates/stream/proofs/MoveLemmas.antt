@@ -20,7 +20,7 @@ pub moved_all : (before text after rest : List ℕ) → Moved before text after 
 moved_all before text after rest moved none =
     sym (append-nil after) ∙ ap (λ t. after ++ t) (sym (ap chars (nil_from_length rest none) ∙ chars-nil)) ∙ moved
 
--- each of the first n bytes is ASCII
+-- if `list_all is_ascii` holds for the first n bytes, each of these bytes is below 128
 pub ascii_at : (text : List ℕ) (n k : ℕ) → k < n → n ≤ length text → list_all is_ascii (take n text) ≡ true → get_or text k 0 < 128
 ascii_at text n k below within all =
     let same : get_or (take n text) k 0 ≡ get_or text k 0 = get_or-take n text k 0 below in

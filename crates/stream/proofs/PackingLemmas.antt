@@ -1,5 +1,5 @@
--- Each row of the shuffles keeps the first bytes of each lane; their number is encoded in the lane's bits of the two
--- masks.
+-- Each row of `SHUFFLES` keeps the first bytes of each lane. The lane's bits in the two masks encode how many
+-- bytes are kept.
 use Rattle.std.proofs.Common.{◌≡◌, ℕ, zero, suc, ◌+◌, ◌-◌, ◌*◌, ◌/◌, ◌%◌, ◌^◌, ◌<◌, ◌≤◌, Bool, true, ◌&&◌, w8, w32, Fits, List, [], ◌∷◌, ◌++◌, length, get_or, map, take, drop, T, cond, false, bit_and, bit_xor, encode_utf8, encode_utf8_all, ap₂, replicate, inl, inr, eqb, leb, leb→le, ltb, ltb→lt, eqb→eq, div-one, length-take-le, refl, sym, ap, subst, zero-add, ◌∙◌, arith}
 use Rattle.std.proofs.lemmas.Bool.{and_parts, cases_lt, le-leb, lt-leb, ltb-true}
 use Rattle.std.proofs.lemmas.List.{append_assoc, ext_get_or, length-drop, take_all, take-append-drop, take-append-le}
@@ -20,7 +20,7 @@ use Rattle.stream.specs.declared.packing.TheConstants.{LENGTHS, SHUFFLES}
 abbrev listed : (ℕ → ℕ) → ℕ → List ℕ
 listed f n = map f (range_with_len 0 n)
 
--- the first bytes of n lanes that start at index p, where f maps an index to a byte of the lanes
+-- the kept bytes of n lanes, of which the first starts at index p; f maps an index to a byte of the lanes
 abbrev gathered : (ℕ → ℕ) → ℕ → ℕ → ℕ → ℕ → List ℕ
 gathered f low high zero p = []
 gathered f low high (suc n) p = take (kept (low % 2) (high % 2)) (f p ∷ f (p + 1) ∷ f (p + 2) ∷ f (p + 3) ∷ []) ++ gathered f (low / 2) (high / 2) n (p + 4)
@@ -58,14 +58,14 @@ each_below n (x ∷ xs) all =
     let parts = and_parts (ltb x n) (all_below n xs) all in
     (ltb→lt x n (is_true (ltb x n) parts.0), each_below n xs parts.1)
 
--- a fact holds for each list of n numbers if it holds for n numbers written out
+-- `P` holds for each list of n numbers if `P` holds for each list that is written out as n items
 pub spelled : (P : List ℕ → Type 0) (n : ℕ) → ((f : ℕ → ℕ) → P (listed f n)) → (xs : List ℕ) → length xs ≡ n → P xs
 spelled P n h xs long =
     let f = λ (k : ℕ). get_or xs k 0 in
     let many = length-map-range_with_len f 0 n in
     subst P (ext_get_or 0 _ xs (many ∙ sym long) (λ i l. get_or-map-range_with_len f 0 n i i 0 (omega (arith, many, l)) (zero-add i))) (h f)
 
--- the bytes of four lanes, by their index
+-- the byte at an index of the concatenated bytes of four lanes
 abbrev lane_bytes : List ℕ → ℕ → ℕ
 lane_bytes words k = get_or (bytes_of (get_or words (k / 4) 0)) (k % 4) 0
 
@@ -90,7 +90,7 @@ bytes-listed words fits =
 packed-four : (words : List ℕ) → length words ≡ 4 → (low high : ℕ) → gathered (lane_bytes words) low high 4 0 ≡ packed words low high
 packed-four words long low high = spelled (λ ws. gathered (lane_bytes ws) low high 4 0 ≡ packed ws low high) 4 (λ f. refl) words long
 
--- an index of a row, from the bits of the lanes
+-- the index of a row, computed from the two masks of the lanes
 module _ {low high : ℕ} (few : low < 16) (some : high < 16) where
   abbrev row : ℕ
   row = low + 16 * high
@@ -206,7 +206,7 @@ module _ (c : ℕ) where
       ap (take 4) (four-parts (240 + c / 262144) (128 + c / 4096 % 64) (128 + c / 64 % 64) (128 + c % 64) (four_word c) (omega (arith, short)) (omega arith) (omega arith) (omega arith) word)
       ∙ sym (four_bytes c long)
 
--- a lane of a comparison, and whether it counts as set
+-- the value of a lane after a comparison, and whether the mask has a bit for this lane
 abbrev compared : Bool → ℕ
 compared b = cond b 4294967295 0
 
@@ -230,7 +230,7 @@ abbrev any_word : ℕ → Bool → Bool → Bool → ℕ
 any_word c from_two from_three from_four =
     cond (is_set from_three) (cond (is_set from_four) (four_word c) (three_word c)) (cond (is_set from_two) (two_word c) c)
 
--- two comparisons of which one is set
+-- whether exactly one of two comparisons is true
 abbrev either : Bool → Bool → Bool
 either from_two from_four = top 31 (bit_xor (compared from_two) (compared from_four))
 

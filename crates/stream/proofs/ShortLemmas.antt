@@ -27,7 +27,8 @@ each_byte : (f : ℕ → ℕ) (p : ℕ → Bool) → agree_below (λ x. top 7 (f
 each_byte f p all [] fits = refl
 each_byte f p all (x ∷ xs) fits = ap₂ (λ a b. a ∷ b) (agree_below_at (λ y. top 7 (f y)) p 256 x all fits.0.fits) (each_byte f p all xs fits.1)
 
--- a mask that is computed lane by lane marks the bytes that pass a test, if it does so for each of the 256 bytes
+-- a mask computed lane by lane marks the bytes that pass a test, if it does so for each of the 256 byte
+-- values
 pub masked : (f : ℕ → ℕ) (p : ℕ → Bool) (v z : List ℕ) → length v ≤ 64 → Each1 (Fits w8) v → z ≡ map f v → agree_below (λ x. top 7 (f x)) p 256 ≡ true
     → mask_l (map (top 7) z) % 2 ^ 64 ≡ mask_l (map p v)
 masked f p v z short fits is all =
@@ -58,7 +59,7 @@ chain false false false false w x y z tail = refl
 abbrev pub at_most : ℕ → ℕ → ℕ
 at_most a b = cond (leb a b) 255 0
 
--- `simd_ge` is `simd_le` with its sides exchanged
+-- `simd_ge` is `simd_le` with its operands exchanged
 pub from_splat : (f : ℕ → ℕ) (y n : ℕ) (v : List ℕ) {a : List ℕ} → length v ≡ n → a ≡ map f v → zip2 at_most (replicate n y) a ≡ map (λ x. at_most y (f x)) v
 from_splat f y n v long p = ap (zip2 at_most (replicate n y)) p ∙ zip2_splat_left at_most y n (map f v) (length-map v f ∙ long) ∙ map-map (at_most y) f v
 
@@ -80,7 +81,8 @@ none_marked : (p : ℕ → Bool) (xs : List ℕ) → nat_eq (mask_l (map (λ x. 
 none_marked p [] = refl
 none_marked p (x ∷ xs) = one_more (p x) (mask_l (map (λ y. not (p y)) xs)) (list_all p xs) (none_marked p xs)
 
--- the mask of the lanes that are at least y is empty if and only if all lanes pass the test
+-- if exactly the byte values below y pass the test, the mask of the lanes that are at least y is empty if and
+-- only if all lanes pass the test
 pub none_from : (p : ℕ → Bool) (y : ℕ) (v : List ℕ) → length v ≡ 16 → Each1 (Fits w8) v → agree_below (λ x. top 7 (at_most y x)) (λ x. not (p x)) 256 ≡ true
     → nat_eq (mask_l (map (top 7) (zip2 at_most (replicate 16 y) v)) % 2 ^ 64) 0 ≡ list_all p v
 none_from p y v long fits all =
@@ -137,7 +139,7 @@ shuffled_small xs i (j ∷ js) all = (small_or_zero (zeroes 16 w8 j) _ (small_at
 abbrev wide : List ℕ → List ℕ
 wide xs = number_l 256 (chunk 0 4 xs) ∷ number_l 256 (chunk 4 4 xs) ∷ number_l 256 (chunk 8 4 xs) ∷ number_l 256 (chunk 12 4 xs) ∷ []
 
--- to base 2^32, the digits of the number with the given bytes are the numbers of four bytes each
+-- the digits, in base 2^32, of the number that the bytes encode are the numbers that each four bytes encode
 widened : (xs : List ℕ) → Each1 (λ x. x < 256) xs → digits_l (2 ^ 32) 4 (number_l 256 xs) ≡ wide xs
 widened xs all =
     let w : (j : ℕ) → j < 4 → get_or (digits_l (2 ^ 32) 4 (number_l 256 xs)) j 0 ≡ number_l 256 (chunk (4 * j) 4 xs) = λ j lt. get_or_wider 256 4 (2 ^ 32) 4 xs j refl all lt in
@@ -180,7 +182,7 @@ gathered none bytes marks few long fits =
 abbrev Counts : List ℕ → ℕ → Type 0
 Counts bytes marks = ones marks ≡ length (pairs 4 marks bytes)
 
--- a mask has as many marks as the bytes have pairs
+-- the number of marks in a mask is the number of pairs
 pub counted : (bytes : List ℕ) (marks : ℕ) → marks < 16 → length bytes ≡ 16 → ones marks ≡ length (pairs 4 marks bytes)
 unfolding ones
 counted bytes marks few long =
@@ -202,7 +204,7 @@ take_map f zero xs = refl
 take_map f (suc n) [] = refl
 take_map f (suc n) (x ∷ xs) = ap (λ t. f x ∷ t) (take_map f n xs)
 
--- if four items were written to an index, the first n of them follow the items before the index
+-- if four items were written at an index, the first n of them follow the items before the index
 pub written : (at n : ℕ) (out four post : List ℕ) → at ≤ length out → n ≤ length four → take (at + n) (take at out ++ (four ++ post)) ≡ take at out ++ take n four
 written at n out four post within few =
     let len : length (take at out) ≡ at = length-take-le at out within in
@@ -216,7 +218,7 @@ first_chars f pair decoded bytes marks few long gathers is =
 
 -- ---- all pairs
 
--- the pairs of bytes are those of the first four bytes, and then those of the bytes after them
+-- the pairs of bytes are the pairs of the first four bytes, followed by the pairs of the remaining bytes
 pub pairs_after_4 : (n marks : ℕ) (w x y z : ℕ) (bytes : List ℕ)
     → pairs (suc (suc (suc (suc n)))) marks (w ∷ x ∷ y ∷ z ∷ bytes) ≡ pairs 4 (marks % 16) (w ∷ x ∷ y ∷ z ∷ bytes) ++ pairs n (marks / 16) bytes
 pairs_after_4 n marks w x y z bytes =
@@ -229,7 +231,7 @@ pairs_after_4 n marks w x y z bytes =
     (chain (marks % 2 == 1) (marks / 2 % 2 == 1) (marks / 2 / 2 % 2 == 1) (marks / 2 / 2 / 2 % 2 == 1)
     (w + 256 * x) (x + 256 * y) (y + 256 * z) (z + 256 * get_or bytes 0 0) (pairs n (marks / 2 / 2 / 2 / 2) bytes))
 
--- the pairs of 16 bytes are those of each four bytes, one after another
+-- the pairs of 16 bytes are the concatenated pairs of each four bytes
 pub pairs_by_4 : (marks : ℕ) (f : ℕ → ℕ) → marks < 2 ^ 16
     → pairs 16 marks (listed f 16)
     ≡ pairs 4 (marks % 16) (listed f 16) ++ (pairs 4 (marks / 16 % 16) (drop 4 (listed f 16)) ++ (pairs 4 (marks / 256 % 16) (drop 8 (listed f 16)) ++ pairs 4 (marks / 4096) (drop 12 (listed f 16))))
@@ -253,8 +255,8 @@ joined f a b c d w x y z p q r s =
     s ∙ ap (λ t. t ++ map f z) (r ∙ ap (λ t. t ++ map f y) (q ∙ ap (λ t. t ++ map f x) p ∙ sym (map_append f w x)) ∙ sym (map_append f (w ++ x) y)) ∙ sym (map_append f ((w ++ x) ++ y) z)
     ∙ ap (map f) (append_assoc (w ++ x) y z ∙ append_assoc w x (y ++ z))
 
--- Items were added to a list, and then some of them were replaced in the slice of the list. This is the list up to
--- the end of the first k.
+-- If items are appended to `chars` and then overwritten so that `new` comes first, the list up to the first k
+-- of these items is `chars ++ new`.
 pub in_list : (chars zeros front out post rest new : List ℕ) (len k all : ℕ) → front ≡ chars ++ zeros → len ≡ length chars → k ≤ length out → len + k ≤ all → take k out ≡ new
     → take (len + k) (take all ((take len front ++ (out ++ post)) ++ rest)) ≡ chars ++ new
 in_list chars zeros front out post rest new len k all is len_is few within written_is =

@@ -19,7 +19,7 @@ use Rattle.stream.specs.Utf8.{Moved}
 
 -- ---- marks as a list
 
--- the pairs of the bytes that are marked in a list
+-- the pairs that begin with marked bytes; a list of flags marks the bytes
 abbrev picked : List Bool → List ℕ → List ℕ
 picked [] bytes = []
 picked (m ∷ ms) [] = []

@@ -67,7 +67,7 @@ after (c ∷ cs) es b all is =
     let both = and_parts _ _ (ap scalars (sym later.1) ∙ all) in
     after cs later.0 b both.1 later.2
 
--- if UTF-8 text starts with UTF-8 text, the text after it is UTF-8 too
+-- if UTF-8 text starts with UTF-8 text, the rest of the text is also UTF-8
 pub IsUtf8-after : (a b : List ℕ) → IsUtf8 (a ++ b) → IsUtf8 a → IsUtf8 b
 IsUtf8-after a b all front = after front.0 all.0 b all.1.0 (all.1.1 ∙ ap (λ t. t ++ b) (sym front.1.1))
 
@@ -95,7 +95,7 @@ utf8_valid_len-after a b u = ⊎_elim
     (λ valid. utf8_valid_len-IsValidUpTo (a ++ b) (length a + utf8_valid_len b) (valid_after a b (utf8_valid_len b) u valid))
     (utf8_or_not b)
 
--- the bytes after the valid prefix do not depend on UTF-8 before it
+-- prepending UTF-8 text does not change the bytes after the valid prefix
 pub drop-valid-after : (a b : List ℕ) → IsUtf8 a → drop (utf8_valid_len (a ++ b)) (a ++ b) ≡ drop (utf8_valid_len b) b
 drop-valid-after a b u = ap (λ n. drop n (a ++ b)) (utf8_valid_len-after a b u) ∙ drop-append-add a b (utf8_valid_len b)
 
@@ -208,8 +208,8 @@ second_of_4 c a b d e valid least low f g h is = go (cases_lt 240 a) (cases_lt a
 encode_filled : (c : ℕ) → 0 < length (encode c)
 encode_filled c = omega (arith, length-encode c, (len_utf8_bounds c).0)
 
--- if the encoding of a code point has more than one, two or three bytes, the code point is too large for
--- fewer
+-- a code point whose encoding has more than one, two or three bytes is at least 128, 2048 or 65536,
+-- respectively
 past_one : (c : ℕ) → 1 < length (encode c) → 128 ≤ c
 past_one c h = ⊎_elim (λ l. absurd (omega (arith, ap length (one c l)))) (λ l. l) (cases_lt c 128)
 

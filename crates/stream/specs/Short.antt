@@ -13,6 +13,6 @@ pairs (suc n) marks [] = []
 pairs (suc n) marks (byte ∷ bytes) =
     if marks % 2 == 1 then (byte + 256 * slice_index bytes 0) ∷ pairs n (marks / 2) bytes else pairs n (marks / 2) bytes
 
--- the character that begins with a pair of bytes
+-- the character whose first byte is the first byte of a pair, and whose second byte, if any, is the other
 abbrev pub short_char : ℕ → ℕ
 short_char pair = if nat_lt (pair % 256) 0x80 then pair % 256 else (pair % 32 * 64 + pair / 256 % 64)

@@ -7,8 +7,8 @@ ghost use Rattle.stream.specs.Packing.{fits_two_bytes};
 
 use crate::packing::{LANES, lanes, pack_any, pack_ascii, pack_short};
 
-// The number of characters in a group. All characters of a group are encoded by the function that the highest
-// of them requires.
+// The number of characters in a group. The highest character of a group determines which function encodes the
+// whole group.
 const GROUP: usize = 16;
 
 /// Encodes characters as UTF-8 at the front of a buffer, and returns the number of bytes written.

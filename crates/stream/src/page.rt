@@ -51,7 +51,7 @@ impl Page {
     }
 }
 
-// Appends bytes to a list, after reserving `room` bytes once.
+// Appends bytes to a list. Reserves capacity with `reserve_first` before the first bytes.
 fn append(bytes: &[u8], room: &mut usize, list: &mut Vec<u8>) -> Result<(), AllocError>
     ensures ok { OnOk result (list.new.items ≡ list.old.items ++ bytes.now) }
     ensures err { OnErr result (list.new.items ≡ list.old.items) }

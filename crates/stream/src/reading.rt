@@ -10,7 +10,7 @@ use std::io::ErrorKind;
 /// The size of a chunk in bytes: the maximum number of bytes requested from a source at a time.
 pub const CHUNK: usize = 65_536;
 
-// The documents state this limit as a number. Contracts refer to the constant.
+// The documentation states this limit as a number. Contracts refer to the constant.
 const _: () = prove!(CHUNK == 65_536);
 
 /// Allocates a buffer of `len` zeros.

@@ -76,8 +76,8 @@ fn push_lanes<'a>(text: &'a str, characters: &mut Vec<char>) -> &'a str
     rest
 }
 
-// Returns how many of the first `LANES` bytes form whole characters, if all of these have one or two bytes.
-// These are all bytes, or all except the first byte of a character at the end.
+// Returns how many of the first `LANES` bytes form whole characters, if all these characters have one or two
+// bytes. The result is `LANES`, or one less if the last byte begins a character of two bytes.
 #[inline(always)]
 fn short_len(text: &str) -> usize
     requires long { LANES ≤ length text.now }
@@ -91,8 +91,8 @@ fn short_len(text: &str) -> usize
     }
 }
 
-// Adds the characters at the start of a text that have the same length in bytes, and returns the rest of the
-// text.
+// Adds the first characters of a text, as long as all have one byte, all have two bytes, or all have more.
+// Returns the rest of the text.
 #[inline(always)]
 fn push_some<'a>(text: &'a str, characters: &mut Vec<char>) -> &'a str
     requires some { 0 < length text.now }
@@ -164,7 +164,7 @@ pub fn front(bytes: &[u8]) -> (&str, bool)
     }
 }
 
-// Implements `front` for any bytes, which may be validated twice.
+// Implements `front` for any bytes. May validate the bytes twice.
 fn checked(bytes: &[u8]) -> (&str, bool)
     ensures text { result.0.now ≡ take (utf8_valid_len bytes.now) bytes.now }
     ensures bad { result.1 ≡ is_bad bytes.now }
@@ -193,7 +193,8 @@ fn is_beginning(bytes: &[u8]) -> bool
     }
 }
 
-// Returns the index of the last character if it seems to be cut off, or else the number of bytes.
+// Returns the index at which the last character begins if this character seems to be incomplete. Otherwise,
+// returns the number of bytes.
 fn whole_len(bytes: &[u8]) -> usize
     ensures within { result ≤ length bytes.now }
     ensures cut { result < length bytes.now → IsCutOff bytes.now result }

@@ -6,7 +6,7 @@ use Rattle.ucd.specs.declared.version.Version.{Version}
 use Rattle.tables.specs.declared.fault.FolderFault.{FolderFault}
 
 module _ (has_file : ℕ → List ℕ → Type 0) (cannot_read : ℕ → Type 0) (version : Version) where
-  -- the files before an index can be read, and the one at the index cannot
+  -- the files before an index can be read, and the file at the index cannot be read
   pub unread : {T : Type 0} (r : Result T FolderFault) (why : FolderFault) → IsErrAnd r (λ x. x ≡ why) → (index : ℕ) → index < 7
       → ((k : ℕ) → k < index → (bytes : List ℕ) × has_file k bytes) → IsUnread (cannot_read index) (file_name index) why
       → IfErr r (IsFileFaultAs has_file cannot_read version)

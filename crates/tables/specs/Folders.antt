@@ -38,7 +38,7 @@ abbrev pub IsFaultFor : Version → UcdFiles → FolderFault → Type 0
 IsFaultFor version files (Table fault) = IsFaultAs version files fault
 IsFaultFor version files other = ⊥
 
--- a folder that has files with certain bytes, and other files that cannot be read
+-- a folder, given the bytes of its files, and which files cannot be read
 module _ (has_file : ℕ → List ℕ → Type 0) (cannot_read : ℕ → Type 0) where
   -- the contents of the seven files
   pub record AreFiles (files : UcdFiles) : Type 0 where
@@ -57,13 +57,13 @@ module _ (has_file : ℕ → List ℕ → Type 0) (cannot_read : ℕ → Type 0)
   abbrev pub AreFromFiles : Tables → Type 0
   AreFromFiles = AreFromFilesAs V15_0
 
-  -- the first file that cannot be read, or an allocation failed
+  -- the file at `index` is the first file that cannot be read, or an allocation failed
   pub record IsFirstUnread (why : FolderFault) (index : ℕ) : Type 0 where
     pub within : index < 7
     pub first : (k : ℕ) → k < index → (bytes : List ℕ) × has_file k bytes
     pub unread : IsUnread (cannot_read index) (file_name index) why
 
-  -- a file cannot be read, or this is the first fault of the files
+  -- `why` says that a file cannot be read, or is the first fault of the files
   abbrev pub IsFileFaultAs : Version → FolderFault → Type 0
   IsFileFaultAs version why = ((index : ℕ) × IsFirstUnread why index) ⊎ ((files : UcdFiles) × AreFiles files × IsFaultFor version files why)
 
@@ -80,8 +80,8 @@ module _ (has_file : ℕ → List ℕ → Type 0) (cannot_read : ℕ → Type 0)
     abbrev pub AreInstalled : Tables → Type 0
     AreInstalled = AreInstalledAs V15_0
 
-    -- the image cannot be read, or this is its first fault; or there is no image, and this is the first fault of the
-    -- files
+    -- `why` says that the image cannot be read, or is the first fault of the image; or there is no image, and
+    -- `why` is the first fault of the files
     abbrev pub IsInstalledFaultAs : Version → FolderFault → Type 0
     IsInstalledFaultAs version why =
         IsUnread cannot_read_image image_name why ⊎ (((bytes : List ℕ) × has_image bytes × IsUnusableAs version bytes why) ⊎ (has_no_image × IsFileFaultAs version why))

@@ -1,8 +1,8 @@
-//! Why the tables of a folder cannot be read.
+//! Errors that occur when the tables of a folder are read.
 use thiserror::Error;
 use ucd::{ImageFault, TableFault};
 
-/// Why the tables cannot be read.
+/// An error that occurred when tables were read.
 #[derive(Clone, Copy, Debug, PartialEq, Eq, Error)]
 pub enum FolderFault {
     /// The file with this name cannot be read.
@@ -11,7 +11,7 @@ pub enum FolderFault {
     /// A file is malformed, or memory ran out while it was parsed.
     #[error("{0}")]
     Table(TableFault),
-    /// The image is damaged, or of another format or Unicode version.
+    /// The image is damaged, or has another format or Unicode version.
     #[error("cannot use tables.image: {0}")]
     Image(ImageFault),
     /// Memory ran out while the files or the image were read.

@@ -29,13 +29,13 @@ pub trait TableFolder {
 
     ghost cannot_read_image: { Self → Type 0 };
 
-    /// Reads the file with this index in `FILE_NAMES`. Fails if it cannot be read, or if memory runs out.
+    /// Reads the file with this index in `FILE_NAMES`. Fails if the file cannot be read or memory runs out.
     fn file(&self, alloc: Global, index: usize) -> Result<Vec<u8>, FolderFault>
         requires { index < 7 }
         ensures ok { IfOk result (λ bytes. has_file self.now index bytes.items) }
         ensures err { IfErr result (IsUnread (cannot_read self.now index) (file_name index)) };
 
-    /// Reads the image, if there is one. Fails if it cannot be read, or if memory runs out.
+    /// Reads the image, if there is one. Fails if the image cannot be read or memory runs out.
     fn image(&self, alloc: Global) -> Result<Option<Vec<u8>>, FolderFault>
         ensures ok { IfOk result (λ image. MatchOption image (has_no_image self.now)
             (λ bytes. has_image self.now bytes.items)) }

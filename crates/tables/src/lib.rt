@@ -1,6 +1,6 @@
-//! Reads the tables from a folder, for programs: from seven files, or from a compiled image.
+//! Reads the tables of a program from a folder: from seven files, or from a compiled image.
 //!
-//! Functions without a version are for Unicode 15.0.
+//! Functions that take no version read tables of Unicode 15.0, except `of_image`, which accepts any version.
 #![tactic(auto)]
 
 ghost use Rattle.std.specs.Prelude.{◌≡◌, ℕ, List, IfOk, IfErr, ⊤};

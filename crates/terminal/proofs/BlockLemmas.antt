@@ -56,7 +56,7 @@ module _ (is_cut : ℕ → ℕ → Bool) where
       ∙ ap (λ n. take n shown ∷ regrouped (paragraphs is_cut (drop k characters)) (drop n shown)) len
       ∙ ap (λ cs. take k shown ∷ regrouped (paragraphs is_cut cs) (drop k shown)) back
 
-  -- if there is no boundary, there is one paragraph
+  -- if there is no boundary, a non-empty block shows one paragraph
   pub only_group : (shown : List (ℕ × Style)) (characters : List ℕ) → characters ≡ characters_of shown → 0 < length characters → SplitsAt is_cut characters None
       → styled_paragraphs is_cut shown ≡ shown ∷ []
   only_group shown characters same some splits =
@@ -66,7 +66,7 @@ module _ (is_cut : ℕ → ℕ → Bool) where
   pub no_group : (shown : List (ℕ × Style)) → length shown ≡ 0 → styled_paragraphs is_cut shown ≡ []
   no_group shown none = ap (styled_paragraphs is_cut) (nil_from_length shown none)
 
--- the characters of a range are the characters in that range of the styled text
+-- the characters in a range are the characters of the same range of the styled text
 pub range_text : (shown : List (ℕ × Style)) (characters own : List ℕ) (at end : ℕ) → characters_of shown ≡ characters → own ≡ slice_range characters at end
     → own ≡ characters_of (take (end - at) (drop at shown))
 range_text shown characters own at end c o =
@@ -83,7 +83,7 @@ module _ (rules : Rules) (form : Form) where
   abbrev pub pages : List (ℕ × Style) → List ℕ
   pages shown = flat_map (printed_pieces rules form) (styled_paragraphs (cut_by rules) shown)
 
-  -- the lines of a range are those of a paragraph with its characters and styles
+  -- the printed bytes of a range are those of the paragraph that consists of the range's styled characters
   pub range_is : (shown : List (ℕ × Style)) (characters own : List ℕ) (styles own_styles : List Style) (at end : ℕ)
       → characters_of shown ≡ characters → styles_of shown ≡ styles → own ≡ slice_range characters at end → own_styles ≡ slice_range styles at end
       → printed_bytes rules form own own_styles ≡ printed_paragraph rules form (take (end - at) (drop at shown))
@@ -113,7 +113,7 @@ next_by rules now form e shown at end old new all split n h =
     (n ∙ ap (λ (r : Rules). old ++ printed_pieces r form (take (end - at) (drop at shown))) e) h
 
 module _ (rules : Rules) where
-  -- the next paragraph ends k characters after `at`
+  -- if the first boundary in the rest is after k characters, the next paragraph ends k characters after `at`
   pub group_ends : (shown : List (ℕ × Style)) (characters rest : List ℕ) (at k end : ℕ) → characters ≡ characters_of shown → rest ≡ drop at characters → end ≡ at + k
       → SplitsAt (cut_by rules) rest (Some k)
       → styled_paragraphs (cut_by rules) (drop at shown) ≡ take (end - at) (drop at shown) ∷ styled_paragraphs (cut_by rules) (drop end shown)

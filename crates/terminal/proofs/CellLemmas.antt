@@ -15,7 +15,7 @@ use Rattle.lines.specs.Widths.{widths_of}
 use Rattle.lines.proofs.WidthLemmas.{tab_size, tab_wide, width_plain, width_tab}
 use Rattle.terminal.specs.Lines.{line_cells}
 
--- one character, or spaces in its place
+-- a character or, if `spaces` is not 0, that number of spaces instead
 abbrev pub placed : ℕ → ℕ → List ℕ
 placed spaces c = if spaces == 0 then c ∷ [] else replicate spaces 32
 
@@ -38,7 +38,7 @@ control = refl
 placed_some : (n c : ℕ) → 0 < n → placed n c ≡ replicate n 32
 placed_some n c some = cond-false (n == 0) (c ∷ []) (replicate n 32) (ne_eqb n 0 (λ e. omega (arith, some, e)))
 
--- U+0009 becomes as many spaces as it has columns, if it has any
+-- a tab is printed as one space for each of its columns, or unchanged if it has no columns
 pub cells_tab : (visual : Visual) (c k : ℕ) → is_measured visual ≡ false → get_or visual.text k 0 ≡ 9 → line_cells visual c k ≡ placed (width_at visual k) c
 cells_tab visual c k plain nine =
     let n : ℕ = visual.tab_width in

@@ -35,7 +35,7 @@ marked-append false (c ∷ xs) ys = split ∙ ap (λ (b : Bool). marked false (c
 not_less : (a b : ℕ) → b ≤ a → nat_lt a b ≡ false
 not_less a b le = grind (arith, nat_tests)
 
--- a part of a text can be decoded by itself
+-- the text of some bytes is their first decoded characters, followed by the text of the remaining bytes
 text_by : (escapes : Escapes) (old new : Bool) (bytes rest xs : List ℕ) → lossy bytes ≡ xs ++ lossy rest → new ≡ (old || nat_lt 0 (length xs))
     → text_after escapes old bytes ≡ pictures escapes (marked old xs) ++ text_after escapes new rest
 text_by escapes old new bytes rest xs e flag =
@@ -96,7 +96,7 @@ takes strict stops escapes whole old new before mid started after from n d f s f
         by_cases [] len = not_less from (length mid) (omega (arith, len, f))
         by_cases (x ∷ xs) len = lt-ltb from (length mid) (omega (arith, len, f)) ∙ sym (lt-ltb 0 (length (x ∷ xs)) (omega arith))
 
--- setting the item after the front replaces this item alone
+-- setting the item after a prefix changes neither the prefix nor the later items
 set_front : (front rest : List ℕ) (c v k : ℕ) → length front ≡ k → slice_set (front ++ c ∷ rest) k v ≡ front ++ v ∷ rest
 set_front [] rest c v k len = ap (λ n. slice_set (c ∷ rest) n v) (sym len)
 set_front (x ∷ front) rest c v zero len = absurd (omega (arith, len))

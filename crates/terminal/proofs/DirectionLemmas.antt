@@ -47,7 +47,7 @@ level-append tables (x ∷ xs) ys =
     let first = first_strong_level (map (class_of tables) x) in
     ap (or_else first) (level-append tables xs ys) ∙ sym (or_assoc first (first_level tables xs) (first_level tables ys))
 
--- what a scanner collects from a text has the level of what the text shows
+-- the level of the characters that a scanner collects from a text is `shown_level` of the text
 pub level_shown : (rules : Rules) (text characters : List ℕ) (collected : StyledText) (level : Option ℕ) → styled_of collected ≡ styled START text
     → characters ≡ collected.characters.items → level ≡ first_level rules.tables (paragraphs (cut_by rules) characters) → level ≡ shown_level rules text
 unfolding shown_level
@@ -56,7 +56,7 @@ level_shown rules text characters collected level s c l =
     (c ∙ sym (text_characters collected) ∙ ap characters_of s ∙ shows_the_same START text)
 
 module _ (law : ParagraphsArePieces) (rules : Rules) where
-  -- the level of a text is that of its first block or, if that has none, that of the rest
+  -- the level of a text is the level of its first block or, if the block has none, the level of the rest
   pub level_split : (text block rest : List ℕ) → blocks (cut_by rules) text ≡ block ∷ blocks (cut_by rules) rest
       → shown_level rules text ≡ or_else (shown_level rules block) (shown_level rules rest)
   unfolding shown_level
@@ -80,7 +80,7 @@ module _ (law : ParagraphsArePieces) (rules : Rules) where
       block_is : take n (drop old.start text) ≡ block
       block_is = ap (take n) (sym r) ∙ sym b
 
-      -- the level is that of the block or, if that has none, that of the text after it
+      -- the level is the level of the block or, if the block has none, the level of the text after the block
       pub level_found : (found : Option ℕ) → found ≡ shown_level now block → (more : List ℕ)
           → shown_level rules (text ++ more) ≡ or_else found (shown_level rules (drop n (drop old.start text) ++ more))
       level_found found f more =
@@ -168,7 +168,8 @@ searched_append rules searched text more h =
       passed = subst (λ t. HasPassed searched.passed (drop (searched.scanned + 1) t)) rest_is (held_passed searched.passed searched.scanned rest more within h.passed);
     }
 
--- `HasSearched` also holds for the first characters of a text with more characters
+-- `HasSearched` also holds for the first `FIRST_CHARACTERS` characters of the text after more text is
+-- appended
 pub searched_cut : (rules : Rules) (searched : Searched) (text more all cut : List ℕ) → HasSearched rules searched text → length text < FIRST_CHARACTERS → all ≡ text ++ more
     → cut ≡ take FIRST_CHARACTERS all → HasSearched rules searched cut
 searched_cut rules searched text more all cut h few a c =
@@ -199,7 +200,7 @@ known_cut rules text cut base c known more =
     let rest = drop FIRST_CHARACTERS text in
     known (rest ++ more) ∙ ap (text_direction rules) (sym (append_assoc cut rest more) ∙ ap (λ t. (t ++ rest) ++ more) c ∙ ap (λ t. t ++ more) (take-append-drop FIRST_CHARACTERS text))
 
--- a text with fewer than `FIRST_CHARACTERS` characters is not shortened
+-- if the shortened text has fewer than `FIRST_CHARACTERS` characters, it is the whole text
 pub few_cut : (text cut : List ℕ) → cut ≡ take FIRST_CHARACTERS text → length cut < FIRST_CHARACTERS → (cut ≡ text) × (length text < FIRST_CHARACTERS)
 few_cut text cut c few =
     let short : length text < FIRST_CHARACTERS = elim (cases_lt (length text) FIRST_CHARACTERS) [

@@ -21,7 +21,7 @@ next_after-skip zero text = refl
 next_after-skip (suc skip) [] = refl
 next_after-skip (suc skip) (c ∷ text) = next_after-skip skip text
 
--- a part that is dropped is skipped
+-- skipping a dropped first part does not change the next character
 skipped : (c : ℕ) (text : List ℕ) (n : ℕ) → is_dropped c ≡ true → suc (more_len c text) ≡ n → next_character (c ∷ text) ≡ next_character (drop n (c ∷ text))
 skipped c text n e len =
     cond-true (is_dropped c) (next_after (more_len c text) text) c e ∙ next_after-skip (more_len c text) text ∙ ap (λ k. next_character (drop k (c ∷ text))) len
@@ -59,14 +59,14 @@ none_skipped (c ∷ text) some e = cond-false (is_dropped c) (next_after (more_l
 
 -- ---- ends of blocks
 
--- only after CR does it matter which character follows
+-- after a character other than CR, a paragraph boundary does not depend on the character that follows
 pub cut_same : (class_of : ℕ → BidiClass) (c a b : ℕ) → (c == 13) ≡ false → cut class_of c a ≡ cut class_of c b
 cut_same class_of c a b other =
     ap (λ t. is_separator (class_of c) && not (t && (a == 10 && is_separator (class_of a)))) other
     ∙ sym (ap (λ t. is_separator (class_of c) && not (t && (b == 10 && is_separator (class_of b)))) other)
 
 module _ (is_cut : ℕ → ℕ → Bool) where
-  -- the first block ends where a block ends for the first time
+  -- the first block ends at the first character that ends a block
   first_block : (text : List ℕ) (k : ℕ) → k < length text → ((j : ℕ) → j < k → ends_block is_cut (get_or text j 0) (drop (suc j) text) ≡ false)
       → ends_block is_cut (get_or text k 0) (drop (suc k) text) ≡ true → blocks is_cut text ≡ take (suc k) text ∷ blocks is_cut (drop (suc k) text)
   first_block [] k within none here = absurd (omega (arith, within))

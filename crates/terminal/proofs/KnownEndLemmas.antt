@@ -92,7 +92,8 @@ pub none_known : (text : List ℕ) → 0 < length text → is_dropped (get_or te
 none_known [] some e = absurd (omega (arith, some))
 none_known (c ∷ text) some e = cond-false (is_dropped c) _ _ e
 
--- whether a block ends does not depend on what follows, unless CR is last and its next character is not known
+-- whether a block ends after a character does not depend on what follows the text, unless the character is a
+-- CR whose next character is not known
 pub end_known : (rules : Rules) (c : ℕ) (text more : List ℕ) → (c ≡ 13 → knows_next text ≡ true)
     → ends_block (cut_by rules) c (text ++ more) ≡ ends_block (cut_by rules) c text
 end_known rules c text more known =
@@ -170,7 +171,7 @@ module _ (rules : Rules) where
           let never : (c == 13 && false) ≡ false = and_right (c == 13) false refl in
           no_separator (last (is_separator (class c)) (ap (λ (b : Bool). is_separator (class c) && not b) (sym never) ∙ sym same ∙ uncut))
 
-  -- there is no boundary between the characters before the first one
+  -- there is no boundary between two adjacent characters before the first boundary
   pub uncut_before : (rest : List ℕ) (found : Option ℕ) (k : ℕ) → found ≡ first_cut (cut_by rules) rest → 0 < length rest → k + 1 < unwrap_or found (length rest)
       → cut_by rules (get_or rest k 0) (get_or rest (k + 1) 0) ≡ false
   uncut_before rest found k f some below =

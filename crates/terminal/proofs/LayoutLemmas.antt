@@ -24,7 +24,7 @@ pub if_ok : {T E : Type 0} {P Q : T → Type 0} (r : Result T E) → ((x : T) �
 if_ok (Ok x) f p = f x p
 if_ok (Err e) f p = tt
 
--- the styles of the part from `start` on are the styles from `start` on
+-- the styles of a suffix of a part are the suffix of the part's styles
 pub styles_from : (part shown : Part) (start : ℕ) → shown.numbers.now ≡ drop start part.numbers.now → shown.text.now ≡ part.text.now
     → styles_in shown ≡ drop start (styles_in part)
 styles_from part shown start n t =

@@ -85,7 +85,7 @@ lossy_beginning x some none e =
     ∙ ap (λ t. chars (replacement_bytes ++ t)) (utf8_lossy_empty [] refl)
     ∙ after_replacement [] ∙ ap (λ t. 0xFFFD ∷ t) chars-nil
 
--- nothing is valid after the longest valid prefix
+-- the bytes after the longest valid prefix have an empty valid prefix
 pub none_after : (x : List ℕ) → utf8_valid_len (drop (utf8_valid_len x) x) ≡ 0
 none_after x =
     let v = utf8_valid_len x in
@@ -125,7 +125,7 @@ decoded_text bytes rest before after new text at error d r p e =
           ∙ ap (λ t. (d.characters ++ chars text) ++ lossy (t ++ more)) (sym next);
     }
 
--- if the rest of the bytes has no error, all that can be decoded has been decoded
+-- if the rest of the bytes has no error, `IsAllDecoded` holds after the valid prefix of the rest is decoded
 pub all_decoded : (bytes rest before after new text : List ℕ) (at : ℕ) (error : Option ℕ) → IsDecoded bytes at before after → rest ≡ drop at bytes
     → IsValidPrefix rest text error → new ≡ after ++ chars text → error ≡ None → IsAllDecoded bytes (at + length text) before new
 all_decoded bytes rest before after new text at error d r p e none =
@@ -193,7 +193,8 @@ good_whole strict bytes e = cond-false (strict && is_bad bytes) (take (utf8_vali
 pub good_front : (strict : Bool) (bytes : List ℕ) → (strict && is_bad bytes) ≡ true → good_part strict bytes ≡ take (utf8_valid_len bytes) bytes
 good_front strict bytes e = cond-true (strict && is_bad bytes) (take (utf8_valid_len bytes) bytes) bytes e
 
--- if the form is strict, the bytes that are decoded have the same valid length as all bytes
+-- if the form is strict, the valid prefix of the bytes that are decoded is as long as the valid prefix of all
+-- bytes
 pub good_len : (bytes : List ℕ) → utf8_valid_len (good_part true bytes) ≡ utf8_valid_len bytes
 good_len bytes =
     let v = utf8_valid_len bytes in
@@ -242,7 +243,7 @@ front_decodes bad bytes text before new t b few e = record {
         subst (λ (x : List ℕ). IsAllDecoded x (length text) before new) (sym (good_front true bytes (sym b)))
         (front_decoded front text before new false text_is (whole_good front u) refl (λ _. omega (arith, utf8_valid_len-IsUtf8 front u)) e)
 
--- `Decodes` holds for bytes whose errors are read as U+FFFD
+-- if `strict` is false, `IsAllDecoded` implies `Decodes`
 pub lossy_decodes : (bytes before new : List ℕ) (n : ℕ) → IsAllDecoded bytes n before new → Decodes false bytes n false before new
 lossy_decodes bytes before new n all = record { all = all; stops_is = refl; within = all.decoded.within; valid = λ s. absurd cc }
 

@@ -269,7 +269,7 @@ module _ (rules : Rules) (form : Form) where
           (ends-nil 10 (block_page rules form p) (block_ends p (omega (arith, some, length-append p (joined parts), ap length e))))
       by_rest later (c ∷ rest) e = ends-append 10 (block_page rules form p) _ (later (omega (arith, ap length e)))
 
-  -- the characters shown in all blocks are as many as those that the text shows
+  -- all blocks of a text together show the same number of characters as the text
   pub count_shown : (pen : Pen) (text : List ℕ) → length (joined (shown_blocks pen (blocks (cut_by rules) text))) ≡ length (shown_text text)
   count_shown pen text =
       sym (length-map (joined (shown_blocks pen (blocks (cut_by rules) text))) (λ (c : ℕ × Style). c.0))
@@ -330,7 +330,7 @@ without-append front page e =
     let n : length (front ++ page) - 1 ≡ length front + (length page - 1) = omega (arith, length-append front page, count) in
     ap (λ k. take k (front ++ page)) n ∙ take-append-add front page (length page - 1)
 
--- only the page of what is shown last loses its newline
+-- `ended_page` removes a newline only from the last page
 pub ended-append : (tables : Tables) (is_last : Bool) (front page shown : List ℕ) → (0 < length shown → EndsIn 10 page)
     → ended_page tables is_last (last_of shown) (front ++ page) ≡ front ++ ended_page tables is_last (last_of shown) page
 ended-append tables is_last front page [] ends = by_last is_last
@@ -345,7 +345,7 @@ ended-append tables is_last front page (c ∷ shown) ends = by_tests is_last (is
     by_tests true true = refl
     by_tests true false = without-append front page (ends (omega arith))
 
--- a text that ends a line keeps its page
+-- `ended_page` does not change the page of a text that ends a line
 pub ended_keeps : (tables : Tables) (is_last : Bool) (last : Option ℕ) (page : List ℕ) → is_ended tables last ≡ true → ended_page tables is_last last page ≡ page
 ended_keeps tables is_last last page e = ap (λ (b : Bool). if is_last && not b then without_last page else page) e ∙ by_last is_last
   where

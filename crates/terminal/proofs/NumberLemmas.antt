@@ -15,20 +15,20 @@ module _ (links : List ℕ) (runs : List StyleRun) where
   pub numbered-run : (n : ℕ) (d : StyleRun) → n < length runs → numbered links runs (suc n) ≡ style_in links (get_or runs n d)
   numbered-run n d within = ap (λ o. option_map_or (style_in links) o DEFAULT) (slice_get-get_or runs n d within)
 
-  -- the style at a position is the one with the number at this position
+  -- the style at a position is the style that the number at this position represents
   pub numbered-on : (numbers : List ℕ) (k : ℕ) → style_on (map (numbered links runs) numbers) k ≡ numbered links runs (get_or numbers k 0)
   numbered-on [] k = refl
   numbered-on (n ∷ numbers) zero = refl
   numbered-on (n ∷ numbers) (suc k) = numbered-on numbers k
 
-  -- one more run sets the style from its start on
+  -- an appended run sets the style of every index from the start of the run on
   style_at-push : (style : Style) (rs : List StyleRun) (run : StyleRun) (k : ℕ)
       → style_at links style (rs ++ run ∷ []) k ≡ (if nat_le run.start k then style_in links run else style_at links style rs k)
   style_at-push style [] run k = refl
   style_at-push style (first ∷ rs) run k = style_at-push (if nat_le first.start k then style_in links first else style) rs run k
 
-  -- Numbers of styles, of which those from an index on are right. The others are 0, and depend only on the first `left`
-  -- runs.
+  -- Style numbers of which those from `end` on are correct. The others are 0, and the styles of their
+  -- characters depend only on the first `left` runs.
   pub record IsNumbered (len left end : ℕ) (numbers : List ℕ) : Type 0 where
     pub within : left ≤ length runs
     pub short : end ≤ len
@@ -38,7 +38,7 @@ module _ (links : List ℕ) (runs : List StyleRun) where
     pub zero : (k : ℕ) → k < end → get_or numbers k 0 ≡ 0
     pub known : (k : ℕ) → get_or numbers k 0 ≤ length runs
 
-  -- from its start on, the last of the `left` runs determines the style
+  -- the last of the first `left` runs determines the style from the start of that run on
   style_at-left : (left : ℕ) (run : StyleRun) (k : ℕ) → 0 < left → left ≤ length runs → run ≡ get_or runs (left - 1) run
       → style_at links DEFAULT (take left runs) k ≡ (if nat_le run.start k then style_in links run else style_at links DEFAULT (take (left - 1) runs) k)
   style_at-left left run k some within r =
@@ -47,7 +47,7 @@ module _ (links : List ℕ) (runs : List StyleRun) where
       ∙ ap (λ rs. style_at links DEFAULT rs k) (take_more runs (left - 1) run (omega (arith, some, within)) ∙ ap (λ x. take (left - 1) runs ++ x ∷ []) (sym r))
       ∙ style_at-push DEFAULT (take (left - 1) runs) run k
 
-  -- before its start, the other runs among the first `left` determine the style
+  -- before the start of that run, the other runs among the first `left` determine the style
   rest_before : (left : ℕ) (run : StyleRun) (k : ℕ) → 0 < left → left ≤ length runs → run ≡ get_or runs (left - 1) run → k < run.start
       → style_at links DEFAULT (take (left - 1) runs) k ≡ style_at links DEFAULT (take left runs) k
   rest_before left run k some within r before =

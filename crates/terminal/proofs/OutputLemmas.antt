@@ -35,7 +35,7 @@ HaveEnds is_cut [] = Unit {0}
 HaveEnds is_cut (b ∷ bs) = HasEnd is_cut b × HaveEnds is_cut bs
 
 module _ (is_cut : ℕ → ℕ → Bool) where
-  -- all blocks except the last one have ends
+  -- all blocks of a text except the last one satisfy `HasEnd`
   have_ends : (parts : List (List ℕ)) (text q : List ℕ) (qs : List (List ℕ)) → blocks is_cut text ≡ parts ++ q ∷ qs → HaveEnds is_cut parts
   unfolding HaveEnds
   have_ends [] text q qs e = tt
@@ -57,7 +57,7 @@ module _ (is_cut : ℕ → ℕ → Bool) where
       ]
 
 module _ (rules : Rules) where
-  -- such a block shows this character last, which ends a line
+  -- the last character that a block with `HasEnd` shows ends a line
   end_shown : (pen : Pen) (block : List ℕ) → HasEnd (cut_by rules) block → is_ended rules.tables (last_of (characters_of (styled pen block))) ≡ true
   unfolding styled
   end_shown pen block h =
@@ -91,7 +91,7 @@ module _ (rules : Rules) where
       ap (is_ended rules.tables) (ap last_of (characters_of-append own rest) ∙ last-append (characters_of own) (characters_of rest))
       ∙ or_ended rules.tables (last_shown next parts) (last_of (characters_of own)) (ends_shown_by next parts have.1) (end_shown pen b have.0)
 
-  -- the blocks with which a text begins, whatever follows it, have ends
+  -- the blocks that a text begins with, whatever follows the text, satisfy `HasEnd`
   first_have_ends : (parts : List (List ℕ)) (text rest : List ℕ) → ((more : List ℕ) → blocks (cut_by rules) (text ++ more) ≡ parts ++ blocks (cut_by rules) (rest ++ more))
       → HaveEnds (cut_by rules) parts
   first_have_ends parts text rest cuts = some (blocks (cut_by rules) (rest ++ 0 ∷ [])) refl (nonempty rest)

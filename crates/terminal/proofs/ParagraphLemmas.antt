@@ -11,7 +11,7 @@ use Rattle.lines.proofs.VisualLemmas.{lines_within}
 use Rattle.terminal.proofs.BlockLemmas.{zeros_are}
 use Rattle.terminal.proofs.PlainLemmas.{plain_characters}
 
--- if all style numbers of a part are 0, it is printed as in the default style
+-- if all style numbers of a part are 0, the part is printed like text in the default style
 pub plain_part : (rules : Rules) (width : ℕ) (print : Print) (part : Part) → length part.numbers.now ≡ length part.characters.now
     → ((k : ℕ) → k < length part.numbers.now → get_or part.numbers.now k 0 ≡ 0)
     → styled_paragraph rules width print (in_style DEFAULT part.characters.now)

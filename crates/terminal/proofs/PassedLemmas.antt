@@ -70,7 +70,7 @@ nothing_passed passed text s n p = record {
   progress = p ∙ sym (ap (λ (k : ℕ). after_all Start (take k (drop passed.start text))) n);
 }
 
--- the part determines the next character of the text
+-- the next character of a text is the next character of the text from `start` on
 pub part_next : (passed : Passed) (text part : List ℕ) → HasPassed passed text → part ≡ drop passed.start text → next_character text ≡ next_character part
 part_next passed text part h p =
     ap next_character (sym (append-nil text)) ∙ h.skips.next [] ∙ ap next_character (append-nil (drop passed.start text) ∙ sym p)
@@ -82,7 +82,7 @@ module _ (old new : Passed) (text part : List ℕ) (h : HasPassed old text) (p :
   size : length part + old.start ≡ length text
   size = omega (arith, ap length p, length-drop old.start text, h.within)
 
-  -- the part is skipped
+  -- `HasPassed` still holds after the scan skips a part
   pub part_passed : (n : ℕ) → n ≤ length part → Skips n part → new.start ≡ old.start + n → new.scanned ≡ 0 → new.progress ≡ Start → HasPassed new text
   part_passed n within skips s z q =
       let rest : drop n part ≡ drop new.start text = ap (drop n) p ∙ drop-drop n old.start text ∙ ap (λ (k : ℕ). drop k text) (sym s) in
@@ -105,7 +105,7 @@ module _ (old new : Passed) (text part : List ℕ) (h : HasPassed old text) (p :
       ap₂ (λ (a : Progress) (t : List ℕ). after_all a t) (h.progress ∙ ap (λ (t : List ℕ). after_all Start (take old.scanned t)) (sym p)) m
       ∙ sym (after_all-append Start first (drop old.scanned part)) ∙ ap (after_all Start) (take-append-drop old.scanned part)
 
-  -- the rest of the part is scanned
+  -- `HasPassed` still holds after the rest of the part is scanned
   pub scanned_passed : (more : List ℕ) → more ≡ drop old.scanned part → new.start ≡ old.start → new.scanned ≡ length part → new.progress ≡ after_all old.progress more → HasPassed new text
   scanned_passed more m s n q =
       let whole : take new.scanned (drop new.start text) ≡ part =

@@ -98,14 +98,15 @@ module _ (rules : Rules) (form : Form) where
       ++ flat_map (printed_paragraph (in_direction rules (base_of rules (characters_of first))) form) rest) (take_all 1048576 shown short) none
       ∙ append-nil (printed_paragraph rules form shown)
 
-  -- the same holds for a paragraph whose characters and styles are given
+  -- `pieces_short` for a paragraph whose characters and styles are given separately
   pub whole_piece : (text : List ℕ) (styles : List Style) (shown : List (ℕ × Style)) (old new : List ℕ) → text ≡ characters_of shown → styles_of shown ≡ styles → length text ≤ 1048576
       → new ≡ old ++ printed_bytes rules form text styles → new ≡ old ++ printed_pieces rules form shown
   whole_piece text styles shown old new same s short e =
       let count : length text ≡ length shown = ap length same ∙ length-map shown (λ (c : ℕ × Style). c.0) in
       e ∙ ap (λ t. old ++ t) (ap₂ (printed_bytes rules form) same (sym s) ∙ sym (pieces_short shown (omega (arith, count, short))))
 
-  -- the same holds for a paragraph that is over the limit
+  -- printing the first piece of a paragraph, and then the other pieces in its direction, prints
+  -- `printed_pieces`
   pub pieces_are : (now : Rules) (shown : List (ℕ × Style)) (first : List ℕ) (base : ℕ) (old mid new : List ℕ) → now ≡ rules → first ≡ characters_of (take 1048576 shown)
       → base ≡ base_of rules first → mid ≡ old ++ printed_paragraph rules form (take 1048576 shown)
       → new ≡ mid ++ printed_each (in_direction now base) form (drop 1048576 shown) → new ≡ old ++ printed_pieces rules form shown
@@ -146,6 +147,6 @@ none_over (part ∷ parts) short =
     ap (λ (b : Bool). b || list_any (λ (p : List ℕ). nat_lt 1048576 (length p)) parts) (le-ltb 1048576 (length part) (omega (arith, all, short)))
     ∙ none_over parts (omega (arith, all, short))
 
--- no paragraph of a text within the limit is over the limit
+-- if a text is within the limit, so is each of its paragraphs
 pub not_over : ParagraphsArePieces → (rules : Rules) (text : List ℕ) → length text ≤ 1048576 → has_over rules text ≡ false
 not_over law rules text short = none_over (paragraphs (cut_by rules) text) (omega (arith, ap length (law.whole (cut_by rules) text), short))

@@ -144,7 +144,7 @@ ordered_len print visual same =
       | inr n ↦ ap length (cond-false print.nomirror places visual.chars n) ∙ same
     ]
 
--- each line of a paragraph has a character for each place
+-- each line of a paragraph has as many characters as visual positions
 AreAligned : List Line → Type 0
 AreAligned [] = Unit {0}
 AreAligned (line ∷ lines) = (length line.chars ≡ length line.vtol) × AreAligned lines

@@ -51,7 +51,7 @@ match_is pattern now text bytes found n p b f e =
 
 -- ---- rules
 
--- the rules of an engine after its options were set, and after they were set back
+-- the rules of an engine after its options were changed, and after they were restored
 module _ (rules : Rules) (own : Options) (is : rules ≡ unmeasured rules.tables own) where
   pub options_are : rules.options ≡ own
   options_are = ap (λ (r : Rules). r.options) is
@@ -122,7 +122,7 @@ pub narrow_is : (width : ℕ) (layout : Layout) (visual : Visual) → Some visua
     → IsOnly width (λ nth. visual_of layout.base layout.tab_width layout.advances layout.text layout.lines nth.0 nth.1) layout.lines visual
 narrow_is width layout visual e = only_of width _ layout.lines visual e
 
--- a paragraph's first line begins at its start
+-- the first line of a paragraph begins at index 0
 first_of : (tables : Tables) (options : Options) (margin : Option ℕ) (base : ℕ) (text levels : List ℕ) (infos : List CharInfo) (more : List ℕ) (line : Line)
     → slice_get (lines_from tables options margin base text levels infos (0 ∷ more)) 0 ≡ Some line → line.start ≡ 0
 first_of tables options margin base text levels infos [] line e = sym (ap (λ o. option_map_or (λ (l : Line). l.start) o 0) e)
@@ -187,7 +187,8 @@ pub or_one-none : {A : Type 0} (a : A) (xs : List A) → length xs ≡ 0 → or_
 or_one-none a [] none = refl
 or_one-none a (x ∷ xs) none = absurd (omega (arith, none))
 
--- the styles of what follows a prefix are the styles from the end of the prefix on
+-- the styles of the text after a prefix are the suffix of the part's styles that begins at the end of the
+-- prefix
 pub after_some : (part own : Part) (start end : ℕ) → length part.numbers.now ≡ end → start < end → own.numbers.now ≡ slice_range part.numbers.now start end
     → own.text.now ≡ part.text.now → styles_in own ≡ or_one DEFAULT (drop start (styles_in part))
 after_some part own start end len more n t =
@@ -213,7 +214,7 @@ pub some_prefix : (rules : Rules) (form : Form) (text : List ℕ) (styles : List
 some_prefix rules form text styles zero some = absurd (omega (arith, some))
 some_prefix rules form text styles (suc n) some = refl
 
--- the line that the code finds is that of the definition
+-- the line that the code finds for a prefix is `prefix_line`
 pub line_found : (rules now : Rules) (form : Form) (text : List ℕ) (styles : List Style) (n : ℕ) (own rest : List ℕ) (width base : ℕ) (layout : Layout) (found : Option Visual)
     → now ≡ rules → rest ≡ or_one 10 (drop n text) → own ≡ take n text → base ≡ prefix_base form.prefix (base_of rules rest) → layout ≡ prefix_layout now base own → width ≡ width_of form
     → found ≡ narrow_line width (visuals layout) → found ≡ prefix_line rules form text styles n
@@ -292,7 +293,7 @@ module _ (law : ParagraphsArePieces) (rules : Rules) (text : List ℕ) (paragrap
             rw (get_or-drop n text k 0, get_or-drop n text (k + 1) 0, next) (whole.uncut (n + k) (omega (arith, h, len)));
       }) (omega (arith, len))
 
-  -- what follows a prefix is a paragraph, too
+  -- the text after a prefix, or a newline if there is none, is a paragraph
   pub rest_is : (n : ℕ) → n ≤ length text → IsParagraph rules (or_one 10 (drop n text))
   rest_is n within = elim (cases_lt n (length text)) [
     | inl more ↦ subst (IsParagraph rules) (sym (or_one-some 10 (drop n text) (omega (arith, length-drop n text, more)))) (back_is n more)

@@ -161,7 +161,7 @@ added_one rules now form text rest block old mid new start k e h r first permit 
       over = over_more rules form old mid new h.parts one h.over h.pen adds_is;
     }
 
--- If the form is strict, something is left of a text.
+-- If the form is strict, a part of a non-empty text is left.
 abbrev pub IsHolding : Bool → List ℕ → ℕ → Type 0
 IsHolding strict text start = strict ≡ true → length text ≤ start → length text ≡ 0
 
@@ -207,7 +207,7 @@ onto_some : (c : ℕ) (parts : List (List ℕ)) → IsLongerThan 0 (onto_first c
 onto_some c [] = (c ∷ [], [], refl, omega arith)
 onto_some c (p ∷ parts) = (c ∷ p, parts, refl, omega arith)
 
--- if none of the first n characters ends a block, the first block is longer
+-- if none of the first n characters ends a block, the first block has more than n characters
 long_first : (is_cut : ℕ → ℕ → Bool) (n : ℕ) (text more : List ℕ) → AreNoEnds is_cut n text → n < length text → IsLongerThan n (blocks is_cut (text ++ more))
 long_first is_cut n [] more none less = absurd (omega (arith, less))
 long_first is_cut zero (c ∷ text) more none less =
@@ -268,7 +268,7 @@ ends_first rules now form text rest old new start k e h r first refused empty ho
     let first_is : IsFirst (cut_by rules) k (drop start text) = subst (λ (t : List ℕ). IsFirst (cut_by rules) k t) r (subst (λ (n : Rules). IsFirst (cut_by n) k rest) e first) in
     added_ended rules form text old new start 0 true h (refused.0, first_long (cut_by rules) k (drop start text) first_is refused.1) empty holding
 
--- a block is held back
+-- if a block is held back, `AddsEnded` holds without the block
 pub ends_held : (rules now : Rules) (form : Form) (text rest : List ℕ) (old new : Output) (start k scanned : ℕ) → now ≡ rules → HasAdded rules form text old new start
     → rest ≡ drop start text → IsFirst (cut_by now) k rest → k ≡ length rest → form.strict ≡ true → scanned ≡ k - 1 → styled_of new.scanner.text ≡ []
     → IsHolding form.strict text start → AddsEnded rules form text old new start scanned false

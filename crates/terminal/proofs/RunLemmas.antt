@@ -1,4 +1,4 @@
--- One step of `run`, as it follows from the results of the calls that it makes.
+-- One step of `run`. Its contract follows from the results of the calls that it makes.
 use Rattle.std.proofs.Common.{◌≡◌, ℕ, ◌+◌, ◌<◌, ◌≤◌, nat_lt, Bool, true, false, List, [], ◌∷◌, ◌++◌, length, take, min, Option, Some, None, Result, Ok, Err, vec_len, ◌&&◌, ◌||◌, drop, take_at, if◌then◌else◌, refl, sym, subst, ap, ap₂, inl, inr, ◌∙◌, append_assoc, arith}
 use Rattle.std.specs.List.{concat}
 use Rattle.std.specs.Io.KnownBytes.{Consumes, IsAtEnd}
@@ -54,7 +54,7 @@ valid_more escapes bytes chunk waiting waiting_new text characters text_new star
           ∙ sym (append_assoc text characters (text_after escapes started_new more)) ∙ ap (λ x. x ++ text_after escapes started_new more) (sym e);
     }
 
--- what is not UTF-8 is in the waiting bytes or after them
+-- if the form is strict, invalid UTF-8 can only be in the waiting bytes and the chunk after them
 pub same_bad : (strict : Bool) (escapes : Escapes) (bytes chunk waiting text : List ℕ) (started : Bool) → (strict ≡ true → IsValidSoFar escapes bytes waiting text started)
     → (strict && is_bad (bytes ++ chunk)) ≡ (strict && is_bad (waiting ++ chunk))
 same_bad false escapes bytes chunk waiting text started valid = refl
@@ -108,7 +108,7 @@ end_few n = by_test (nat_lt 0 n)
 
 module _ (rules : Rules) (form : Form) (bytes : List ℕ) (sent : List (List ℕ)) (waiting text : List ℕ) (started : Bool)
     (fed : IsFed rules form bytes sent waiting text started) where
-  -- what is left is the text after the blocks that were sent
+  -- `BeginsWith` holds for the blocks that were sent and the text that is left
   pub fed_begins : BeginsWith rules form bytes sent text
   fed_begins = record {
     text = record {
@@ -177,7 +177,7 @@ module _ (rules : Rules) (form : Form) (bytes : List ℕ) (sent : List (List ℕ
             valid_more form.escapes bytes chunk waiting waiting_new (concat sent ++ text) characters (concat (sent ++ parts) ++ text_new) started started_new (fed.valid is) (valid is) both;
       }
 
--- a chunk was read, and was decoded up to an error
+-- `IsFed` still holds after a chunk was read and decoded up to the first error
 pub fed_read : (rules : Rules) (form : Form) (bytes : List ℕ) (sent : List (List ℕ)) (waiting text : List ℕ) (started : Bool) → IsFed rules form bytes sent waiting text started
     → (chunk waiting_new all text_new characters : List ℕ) (started_new : Bool) (parts : List (List ℕ))
     → ((more : List ℕ) → text_after form.escapes started (good_part form.strict (waiting ++ chunk) ++ more) ≡ characters ++ text_after form.escapes started_new (waiting_new ++ more))
@@ -214,7 +214,8 @@ pub more_page : (rules : Rules) (form : Form) (sent parts : List (List ℕ)) (pe
     → blocks_page rules form (sent ++ parts) ≡ blocks_page rules form sent ++ pages rules form pen parts
 more_page rules form sent parts pen e = pages-append rules form START sent parts ∙ ap (λ (q : Pen). blocks_page rules form sent ++ pages rules form q parts) (sym e)
 
--- if the sink failed within some lines, after others were written, it failed within all these lines
+-- if some lines were written and the sink failed within the next ones, it failed within the concatenation of
+-- both
 pub stopped_after : (front lines : List ℕ) (m n : ℕ) (old mid new : Device) → Wrote front old mid → StoppedAt m lines mid new → n ≡ length front + m → StoppedAt n (front ++ lines) old new
 stopped_after front lines m n old mid new wrote stopped n_is =
     let taken : take n (front ++ lines) ≡ front ++ take m lines = ap (λ k. take k (front ++ lines)) n_is ∙ take-append-add front lines m in (
@@ -424,7 +425,7 @@ module _ (rules : Rules) (form : Form) (is_last : Bool) (reader_old writer_old r
       subst (λ (t : List ℕ). Wrote t writer_old writer_new) (sym page_last) (Wrote-append writer_old writer writer_new (blocks_page rules form s.is_at.sent) _ s.is_at.wrote wrote),
     )
 
-    -- the input ends inside a character
+    -- if the input ends inside a character and the form is strict, the run ends with `NotUtf8`
     pub finish_bad : (n : ℕ) → form.strict ≡ true → 0 < held.decoder.waiting → n ≡ held.decoder.decoded → IsRun rules form is_last reader_old reader_new writer_old writer (Err (f.NotUtf8 n))
     unfolding first_by
     finish_bad n is some n_is =
@@ -608,7 +609,7 @@ stands_at_start rules form reader writer held w b t c passed p empty page n room
       waits = ap length nothing ∙ sym w;
     }
 
--- a step by the current rules is a step by the rules with which the run began
+-- if the rules are unchanged, a step by the current rules is a step by the rules with which the run began
 pub stepped_as : (rules now : Rules) (form : Form) (is_last : Bool) (reader_old writer_old reader writer reader_new writer_new : Device) (held held_new : Held) → now ≡ rules
     → Stands rules form reader_old writer_old reader writer held → (result : Result Bool Fault)
     → (Stands now form reader_old writer_old reader writer held → Steps now form is_last reader_old writer_old reader_new writer_new held_new result)
@@ -618,7 +619,7 @@ stepped_as rules now form is_last reader_old writer_old reader writer reader_new
     subst (λ (r : Result Bool Fault). Steps rules form is_last reader_old writer_old reader_new writer_new held_new r) is
     (subst (λ (r : Rules). Steps r form is_last reader_old writer_old reader_new writer_new held_new result) e here)
 
--- the sink failed at the end of the input
+-- if the sink failed at the end of the input, `Finishes` holds with the fault `Write`
 pub finish_write : (rules : Rules) (form : Form) (is_last : Bool) (held : Held) (over : Bool) (old new : Device) (fault : Fault) (middle : Output) (is_long : Bool)
     → AddsLast rules form is_last (held.text.items ++ last_characters held.decoder.waiting) held.output middle is_long → middle.written ≡ held.output.written
     → ((n : ℕ) × (fault ≡ f.Write (middle.written + n)) × StoppedAt n middle.page.bytes.items old new) → Finishes rules form is_last held over old new (Err fault)

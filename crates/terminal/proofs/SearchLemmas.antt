@@ -121,7 +121,7 @@ module _ (rules : Rules) (escapes : Escapes) (reader_old reader : Device) (searc
     pub search_counted : decoder.decoded + (decoder.waiting + n) ≤ 2 ^ 64 - 1
     search_counted = omega (arith, ap (λ (d : Decoder). d.decoded) r.same, waiting_same, s.counts, s.read.1, r.read.gives.passes.passed, r.read.gives.passes.bounded)
 
-    -- the source has ended
+    -- if the source has ended, the search ends with the direction of the whole input
     pub search_ended : (bytes : List ℕ) (base : Base) → n ≡ 0 → bytes ≡ search.bytes.items → base ≡ text_direction rules (search.text.items ++ last_characters decoder.waiting)
         → IsStart rules escapes bytes base true reader_old reader_new
     search_ended bytes base none same b =
@@ -149,7 +149,7 @@ module _ (rules : Rules) (escapes : Escapes) (reader_old reader : Device) (searc
           ∙ ap (λ (b : Bool). search.text.items ++ text_after escapes b (take (decoder.waiting + n) decoder.chunk.items ++ more)) (sym (ap (λ (d : Decoder). d.started) r.same))
           ∙ ap (λ t. search.text.items ++ t) (a.takes.text more) ∙ sym (append_assoc search.text.items a.takes.characters after) ∙ ap (λ t. t ++ after) (sym a.takes.added)
 
-      -- the direction is known
+      -- if the direction is known, the search ends with this direction
       pub search_found : (base : Base) → found ≡ Some base → IsStart rules escapes new.bytes.items base false reader_old reader_new
       search_found base is =
           let finds : Finds rules a.text new (Some base) = subst (Finds rules a.text new) is a.finds in
@@ -169,7 +169,7 @@ module _ (rules : Rules) (escapes : Escapes) (reader_old reader : Device) (searc
             begins = λ is. inr (failures_same, known);
           }
 
-      -- the direction is not known yet
+      -- if the direction is not known yet, the search continues
       pub search_on : found ≡ None → Searches rules escapes reader_old reader_new new
       search_on is =
           let finds : Finds rules a.text new None = subst (Finds rules a.text new) is a.finds in

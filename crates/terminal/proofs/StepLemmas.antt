@@ -83,7 +83,7 @@ module _ (rules : Rules) (form : Form) (is_last : Bool) (reader_old writer_old r
         (subst (λ (t : List ℕ). IsValidText form.escapes (good_part form.strict t) (take new.decoder.waiting new.decoder.chunk.items) g.takes.characters decoder.started new.decoder.started)
         bytes_are (g.takes.valid is)))
 
-    -- if the form is strict, something is left after a block
+    -- if the form is strict and no text is left, no block was sent
     holds_new : form.strict ≡ true → length new.text.items ≡ 0 → length (s.is_at.sent ++ g.parts) ≡ 0
     holds_new is none =
         let whole : length g.text ≡ 0 = g.holds is none in
@@ -92,7 +92,7 @@ module _ (rules : Rules) (form : Form) (is_last : Bool) (reader_old writer_old r
         ap (λ (t : List ℕ). length (blocks (cut_by rules) (t ++ []))) (sym (nil_from_length g.text whole)) ∙ ap length (g.front.cuts []) ∙ length-append g.parts (blocks (cut_by rules) (new.text.items ++ [])) in
         omega (arith, s.holds is old, cuts, length-append s.is_at.sent g.parts)
 
-    -- whether the run stops is the same for the bytes of the chunk and for all bytes
+    -- the run stops for all bytes read so far if and only if it stops for the bytes in the chunk
     stops_same : (form.strict && is_bad (s.is_at.bytes ++ take n r.read.buffer)) ≡ (form.strict && is_bad (take (decoder.waiting + n) decoder.chunk.items))
     stops_same =
         same_bad form.strict form.escapes s.is_at.bytes (take n r.read.buffer) (take held.decoder.waiting held.decoder.chunk.items) (concat s.is_at.sent ++ held.text.items) held.decoder.started
@@ -124,7 +124,7 @@ module _ (rules : Rules) (form : Form) (is_last : Bool) (reader_old writer_old r
         (take new.decoder.waiting new.decoder.chunk.items) new.text.items new.decoder.started g.parts fed_new
         writer_new (wrote_pages writer_new wrote) (subst (λ (b : Bool). Leaves rules form.strict b new.scanned new.text.items) is g.leaves)
 
-    -- the bytes are not UTF-8
+    -- if the bytes are not UTF-8 and the form is strict, the run ends with `NotUtf8`
     step_bad : (writer_new : Device) → Wrote new.output.page.bytes.items writer writer_new → g.is_long ≡ false → (form.strict && is_bad (take (decoder.waiting + n) decoder.chunk.items)) ≡ true
         → IsRun rules form is_last reader_old reader_new writer_old writer_new (Err (f.NotUtf8 new.decoder.decoded))
     step_bad writer_new wrote short stops =

@@ -177,7 +177,7 @@ module _ (c : ℕ) (kept : is_dropped c ≡ false) (outer : is_inline c ≡ fals
 
 -- ---- the first character that a text shows
 
--- nothing is shown, or first a character that is like the next one of the text
+-- either nothing is shown, or `AreAlike` holds for the first character shown and n
 abbrev IsLed : ℕ → List ℕ → Type 0
 IsLed n shown = (shown ≡ []) ⊎ ((d : ℕ) × (rest : List ℕ) × (shown ≡ d ∷ rest) × AreAlike d n)
 
@@ -273,7 +273,7 @@ module _ (is_cut : ℕ → ℕ → Bool) where
             ∙ sym joined ∙ ap (paragraphs is_cut) (sym (shows_pieces.characters s.piece s.rest s.end (apart_ends s.end tests.0)) ∙ ap shown_text (sym s.whole))
       ]
 
--- whether there is a boundary before a character depends only on whether it is LF
+-- whether there is a boundary after c depends only on whether the next character is LF
 lf_alone : (rules : Rules) (c x y : ℕ) → (x == 10) ≡ false → (y == 10) ≡ false → cut_by rules c x ≡ cut_by rules c y
 lf_alone rules c x y one other =
     let class_at = class_of rules.tables in

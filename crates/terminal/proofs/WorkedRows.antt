@@ -11,7 +11,7 @@ typed c = if c == 94 then 27 else (if c == 124 then 13 else c)
 abbrev text_of : List ℕ → List ℕ
 text_of text = map typed text
 
--- boundaries as the Unicode tables have them for LF and CR
+-- paragraph boundaries after LF and CR, as with the Unicode tables
 abbrev is_cut : ℕ → ℕ → Bool
 is_cut before after = (before == 10 || before == 13) && not (before == 13 && after == 10)
 

@@ -1,4 +1,4 @@
--- Characters of one style after each other.
+-- Writing consecutive characters in one style.
 use Rattle.std.proofs.Common.{◌≡◌, ℕ, replicate, subst, ◌+◌, ◌<◌, ◌≤◌, min, List, [], ◌∷◌, ◌++◌, length, drop, get_or, refl, sym, ap, ◌∙◌, append_assoc, arith}
 use Rattle.std.proofs.lemmas.List.{append-nil, drop_more, length-drop}
 use Rattle.lines.specs.Bytes.{padding}
@@ -10,7 +10,7 @@ use Rattle.terminal.specs.Appending.{Appends}
 use Rattle.terminal.specs.Lines.{in_style, line_cells, line_chars, shown_line, style_on, styled_chars}
 use Rattle.terminal.proofs.SameStyles.{between_same}
 
--- after a character of the same style, characters are written as they are
+-- after a character in the same style, characters are written unchanged
 pub written-same : (style : Style) (chars : List ℕ) (more : List (ℕ × Style)) → written_after style (in_style style chars ++ more) ≡ chars ++ written_after style more
 written-same style [] more = refl
 written-same style (c ∷ chars) more =
@@ -22,7 +22,7 @@ pub written-one : (before style : Style) (chars : List ℕ) (more : List (ℕ ×
 written-one before style [] more some = absurd (omega (arith, some))
 written-one before style (c ∷ chars) more some = ap (λ xs. between before style ++ c ∷ xs) (written-same style chars more)
 
--- appending characters and then others appends both, one after the other
+-- appending two lists of styled characters in turn appends their concatenation
 pub appends_both : (old mid new : List ℕ) (before style last : Style) (xs ys : List (ℕ × Style)) → Appends old mid before style xs → Appends mid new style last ys
     → Appends old new before last (xs ++ ys)
 appends_both old mid new before style last xs ys first second = λ more.

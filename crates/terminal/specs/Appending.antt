@@ -1,4 +1,4 @@
--- How a line is written, part by part. Only the code uses these definitions.
+-- How a line is written, part by part. No contract of an exported function uses these definitions.
 use Rattle.std.specs.Prelude.{◌≡◌, ℕ, List, ◌++◌, Option, option_map}
 use Rattle.lines.specs.declared.printing.print.Print.{Print}
 use Rattle.sequences.specs.Output.{written_after}

@@ -46,7 +46,7 @@ pictures Keep text = text
 pictures Strip text = text
 pictures Text text = map picture text
 
--- the characters of the rest of an input, given whether any of its characters were decoded before
+-- the characters of the rest of an input, given whether any characters of the input were decoded before
 abbrev pub text_after : Escapes → Bool → List ℕ → List ℕ
 text_after escapes started bytes = pictures escapes (if started then lossy bytes else without_mark (lossy bytes))
 
@@ -54,7 +54,7 @@ text_after escapes started bytes = pictures escapes (if started then lossy bytes
 abbrev pub good_part : Bool → List ℕ → List ℕ
 good_part strict bytes = if strict && is_bad bytes then take (utf8_valid_len bytes) bytes else bytes
 
--- The first n bytes were decoded. If `strict`, these bytes are valid UTF-8, and the rest is dropped if it is not.
+-- The first n bytes were decoded. If `strict`, these bytes are valid UTF-8, and an invalid rest is dropped.
 pub record Decodes (strict : Bool) (bytes : List ℕ) (n : ℕ) (stops : Bool) (before after : List ℕ) : Type 0 where
   pub all : IsAllDecoded (good_part strict bytes) n before after
   pub stops_is : stops ≡ (strict && is_bad bytes)

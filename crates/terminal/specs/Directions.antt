@@ -27,7 +27,7 @@ first_level tables (paragraph ∷ following) = or_else (first_strong_level (map 
 unfoldable pub shown_level : Rules → List ℕ → Option ℕ
 shown_level rules text = first_level rules.tables (paragraphs (cut_by rules) (shown_text text))
 
--- whether blocks show no strong character, each by itself
+-- whether each block, taken alone, shows no strong character
 abbrev pub are_weak : Rules → List (List ℕ) → Bool
 are_weak rules blocks = list_all (λ block. not (is_some (shown_level rules block))) blocks
 
@@ -40,8 +40,8 @@ base_by level = if unwrap_or level 0 == 1 then Rtl else Ltr
 abbrev pub direction_of : Rules → Escapes → List ℕ → Base
 direction_of rules escapes bytes = base_by (shown_level rules (take FIRST_CHARACTERS (input_text escapes bytes)))
 
--- The first n bytes of an input were decoded, and the other bytes are the beginning of a character. Only the code uses
--- this definition.
+-- The first n bytes of an input were decoded, and the other bytes are the beginning of a character. No
+-- contract of an exported function uses this definition.
 pub record StartsWith (escapes : Escapes) (bytes : List ℕ) (n : ℕ) (text : List ℕ) : Type 0 where
   pub started : Bool
   pub within : n ≤ length bytes

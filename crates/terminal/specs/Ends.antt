@@ -31,7 +31,7 @@ module _ (is_cut : ℕ → ℕ → Bool) where
     pub last : n + 1 ≡ length text
     pub none : AreNoEnds n text
 
-  -- No end of a block is known before the end of the text. One may be known there only if `holds`.
+  -- No end of a block is known before the end of the text. A block is known to end there only if `holds`.
   abbrev pub IsLeft : Bool → ℕ → List ℕ → Type 0
   IsLeft holds n text = IsOpen n text ⊎ ((holds ≡ true) × IsHeld n text)
 

@@ -21,7 +21,8 @@ is_ended tables last = option_map_or (ends_line tables) last true
 abbrev pub without_last : List ℕ → List ℕ
 without_last bytes = take (length bytes - 1) bytes
 
--- The page of an input. The last input's page has no newline at its end if the text, whose last character is given, does not end a line.
+-- The page of an input. If the input is the last one and its text does not end a line, the page has no
+-- newline at its end. `last` is the last character of the text.
 abbrev pub ended_page : Tables → Bool → Option ℕ → List ℕ → List ℕ
 ended_page tables is_last last page = if is_last && not (is_ended tables last) then without_last page else page
 
@@ -33,7 +34,7 @@ text_output rules form is_last pen text = ended_page rules.tables is_last (last_
 abbrev pub output_page : Rules → Form → Bool → List ℕ → List ℕ
 output_page rules form is_last bytes = text_output rules form is_last START (input_text form.escapes bytes)
 
--- whether this is the last character of a text
+-- whether c is the last character of a text
 pub record EndsIn (c : ℕ) (text : List ℕ) : Type 0 where
   pub front : List ℕ
   pub is : text ≡ front ++ c ∷ []

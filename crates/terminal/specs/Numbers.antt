@@ -1,4 +1,4 @@
--- The numbers of styles. Only the code uses these definitions.
+-- The numbers of styles. No contract of an exported function uses these definitions.
 use Rattle.std.specs.Prelude.{ℕ, zero, suc, List, slice_get}
 use Rattle.std.specs.Option.{option_map_or}
 use Rattle.sequences.specs.Styled.{DEFAULT, Style}

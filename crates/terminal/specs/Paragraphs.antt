@@ -17,7 +17,7 @@ module _ (prefix : Option LinePrefix) (width : ℕ) (print : Print) (layout : La
   styled_nth nth =
       styled_lines prefix width print (visual_of layout.base layout.tab_width layout.advances layout.text layout.lines nth.0 nth.1) (drop nth.1.start styles)
 
-  -- the printed characters of all its lines, in order
+  -- the printed characters of all lines of a layout, in order
   abbrev pub styled_layout : List ℕ
   styled_layout = flat_map styled_nth (enumerate_from 0 layout.lines)
 

@@ -1,4 +1,4 @@
--- The styles of a `Part`. Only the code uses this definition.
+-- The styles of a `Part`. No contract of an exported function uses this definition.
 use Rattle.std.specs.Prelude.{List, map}
 use Rattle.sequences.specs.Styled.{Style}
 use Rattle.terminal.specs.Numbers.{numbered}

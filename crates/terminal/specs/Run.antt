@@ -60,8 +60,8 @@ pub record HasEnded (rules : Rules) (form : Form) (bytes : List ℕ) (ended : Li
   pub is_left : IsLeft (cut_by rules) form.strict upto rest
   pub holds : form.strict ≡ true → length rest ≡ 0 → length ended ≡ 0
 
--- A text is too long in two cases: its first block is over the limit, whatever follows; or an incomplete sequence follows
--- the block's CR, and block and sequence together exceed twice the limit.
+-- A text is too long in two cases: its first block is over the limit, whatever follows, or the text exceeds
+-- twice the limit. The second case arises if a long incomplete sequence follows the block's CR.
 abbrev pub IsTooLong : (ℕ → ℕ → Bool) → List ℕ → Type 0
 IsTooLong is_cut text =
     ((more : List ℕ) → (first : List ℕ) × (others : List (List ℕ)) × (blocks is_cut (text ++ more) ≡ first ∷ others) × (PARAGRAPH_LIMIT < length first))
@@ -71,7 +71,8 @@ IsTooLong is_cut text =
 abbrev pub HasRead : Device → Device → List ℕ → Type 0
 HasRead old new bytes = Consumes old.bytes new.bytes bytes × (new.passed ≡ old.passed + length bytes)
 
--- At most one chunk was read after these bytes, and only after all blocks that end in these bytes were written.
+-- At most one chunk, `late`, was read after the bytes `early`, and all blocks that end in `early` were
+-- written first.
 pub record WritesFirst (rules : Rules) (form : Form) (bytes : List ℕ) (writer_old writer_new : Device) : Type 0 where
   pub early : List ℕ
   pub late : List ℕ
@@ -82,7 +83,7 @@ pub record WritesFirst (rules : Rules) (form : Form) (bytes : List ℕ) (writer_
   pub more : List ℕ
   pub took : Took writer_old writer_new (blocks_page rules form ended ++ more)
 
--- the first k blocks of the whole input are within the limit, and the next one is too long
+-- the first blocks of the whole input, `ended`, are within the limit, and the next block is too long
 abbrev pub EndsTooLong : Rules → Form → List ℕ → List (List ℕ) → Type 0
 EndsTooLong rules form bytes ended =
     (first : List ℕ) × (others : List (List ℕ)) × (blocks (cut_by rules) (input_text form.escapes bytes) ≡ ended ++ first ∷ others)

@@ -98,7 +98,7 @@ pub record Gathers (rules : Rules) (form : Form) (bytes : List ℕ) (old new : H
   pub holds : form.strict ≡ true → length new.text.items ≡ 0 → length text ≡ 0
   pub fault_is : fault ≡ fault_after is_long (form.strict && is_bad bytes) new.decoder.decoded
 
--- The bytes before the waiting bytes are valid UTF-8. These bytes have these characters, whatever follows.
+-- The bytes before the waiting bytes are valid UTF-8, and their characters are `text`, whatever follows.
 pub record IsValidSoFar (escapes : Escapes) (bytes waiting text : List ℕ) (started : Bool) : Type 0 where
   pub front : List ℕ
   pub whole : bytes ≡ front ++ waiting
@@ -125,7 +125,7 @@ pub record IsAt (rules : Rules) (form : Form) (reader_old reader writer_old writ
   pub written_is : written ≡ length (blocks_page rules form sent)
   pub over_is : over ≡ have_over rules START sent
 
--- the state between two reads, after all lines are written
+-- the state of a run between two reads, after all lines on the page were written
 pub record Stands (rules : Rules) (form : Form) (reader_old writer_old reader writer : Device) (held : Held) : Type 0 where
   pub is_at : IsAt rules form reader_old reader writer_old writer (take held.decoder.waiting held.decoder.chunk.items) held.text.items held.decoder.started
       (pen_of held.output.scanner) held.output.written held.output.over

@@ -31,7 +31,7 @@ pub record HasSearched (rules : Rules) (searched : Searched) (text : List ℕ) :
   pub none : AreNoEnds (cut_by rules) searched.scanned (drop searched.start text)
   pub passed : HasPassed searched.passed (drop (searched.scanned + 1) (drop searched.start text))
 
--- Also, no end of a block is known in the rest.
+-- `HasSearched` holds, and no end of a block is known in the rest.
 pub record HasSearchedAll (rules : Rules) (place : Searched) (text : List ℕ) : Type 0 where
   pub searched : HasSearched rules place text
   pub is_open : IsOpen (cut_by rules) place.scanned (drop place.start text)
@@ -47,7 +47,7 @@ pub record Advances (rules : Rules) (escapes : Escapes) (bytes : List ℕ) (old 
   pub takes : Takes false escapes bytes old.decoder new.decoder old.text.items text
   pub finds : Finds rules text new found
 
--- the state between two reads
+-- the state of a search between two reads
 pub record Searches (rules : Rules) (escapes : Escapes) (reader_old reader : Device) (search : Search) : Type 0 where
   pub read : HasRead reader_old reader search.bytes.items
   pub failures : reader.failures ≡ reader_old.failures

@@ -13,7 +13,8 @@ use Rattle.terminal.specs.Texts.{blocks}
 use Rattle.terminal.specs.declared.direction.TheConstants.{FIRST_CHARACTERS}
 use Rattle.terminal.specs.declared.form.Escapes.{Escapes}
 
--- The bytes do not tell the direction: the blocks that have ended show no strong character, and more characters count.
+-- The bytes do not determine the direction: the blocks that have ended show no strong character, and there
+-- are fewer than `FIRST_CHARACTERS` characters.
 pub record IsUnknown (rules : Rules) (escapes : Escapes) (bytes : List ℕ) : Type 0 where
   pub ended : List (List ℕ)
   pub rest : List ℕ
@@ -24,7 +25,7 @@ pub record IsUnknown (rules : Rules) (escapes : Escapes) (bytes : List ℕ) : Ty
   pub weak : are_weak rules ended ≡ true
   pub few : length (concat ended ++ rest) < FIRST_CHARACTERS
 
--- At most one chunk was read after bytes that do not tell the direction.
+-- At most one chunk was read after bytes that do not determine the direction.
 pub record StopsEarly (rules : Rules) (escapes : Escapes) (bytes : List ℕ) : Type 0 where
   pub early : List ℕ
   pub late : List ℕ
@@ -32,8 +33,8 @@ pub record StopsEarly (rules : Rules) (escapes : Escapes) (bytes : List ℕ) : T
   pub chunk : length late ≤ CHUNK
   pub unknown : IsUnknown rules escapes early
 
--- These bytes were read between two states of a source. The direction is that of the whole input, unless the source
--- failed. Then it is the direction of these bytes.
+-- These bytes were read between two states of a source. The direction is that of the whole input, unless the
+-- source failed. If the source failed, the direction is that of these bytes.
 pub record IsStart (rules : Rules) (escapes : Escapes) (bytes : List ℕ) (base : Base) (is_whole : Bool) (reader_old reader_new : Device) : Type 0 where
   pub read : HasRead reader_old reader_new bytes
   pub direction : base ≡ direction_of rules escapes bytes

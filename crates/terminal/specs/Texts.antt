@@ -22,7 +22,7 @@ without_mark (c ∷ text) = if c == 0xFEFF then text else c ∷ text
 abbrev pub decoded : List ℕ → List ℕ
 decoded bytes = without_mark (chars (utf8_lossy bytes))
 
--- the picture of a control that is otherwise dropped: U+2400 to U+241F and U+2421, or U+FFFD for one of C1
+-- the picture of a control that is otherwise dropped: U+2400 to U+241F and U+2421, or U+FFFD for a C1 control
 abbrev pub picture : ℕ → ℕ
 picture c =
     if not (is_dropped c) then c
@@ -30,7 +30,7 @@ picture c =
     else if c == 0x7F then 0x2421
     else 0xFFFD
 
--- in the mode `Text`, pictures replace these controls, so that the text contains no sequences
+-- in the mode `Text`, pictures replace dropped controls, so that the text contains no sequences
 abbrev pub input_text : Escapes → List ℕ → List ℕ
 input_text Keep bytes = decoded bytes
 input_text Strip bytes = decoded bytes
@@ -62,7 +62,8 @@ regrouped [] shown = []
 regrouped (group ∷ groups) shown = take (length group) shown ∷ regrouped groups (drop (length group) shown)
 
 module _ (is_cut : ℕ → ℕ → Bool) where
-  -- whether a paragraph ends after such a character, given the text after it: there is a boundary before the next character
+  -- whether a block ends after a character, given the text after it: no sequence or overstrike contains the
+  -- character, and there is a paragraph boundary before the next character
   abbrev pub ends_block : ℕ → List ℕ → Bool
   ends_block c text = is_apart c && is_cut c (next_character text)
 

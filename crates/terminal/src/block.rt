@@ -159,7 +159,7 @@ fn push_shown(
     push_parts(alloc, page, engine, form, &part, &mut buffers.out)
 }
 
-/// What a block shows.
+/// What `push_block` returns about the text that a block shows.
 #[derive(Clone, Copy)]
 pub(crate) struct Shown {
     pub(crate) last: Option<char>,
@@ -168,7 +168,7 @@ pub(crate) struct Shown {
 }
 
 /// Adds the lines of what a block shows. The scanner is then ready for the next block. After a failed
-/// allocation, its state does not matter.
+/// allocation, the state of the scanner is unspecified.
 pub(crate) fn push_block(
     alloc: Global,
     page: &mut Page,

@@ -100,7 +100,7 @@ impl Decoder {
         Ok(stops)
     }
 
-    /// Returns whether the input has ended inside a character although the form is strict.
+    /// Returns whether `strict` is true and the input has ended inside a character.
     pub(crate) fn is_cut_short(&self, strict: bool) -> bool
         ensures { result ≡ (strict && nat_lt 0 self.now.waiting) }
     {

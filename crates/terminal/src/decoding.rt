@@ -1,4 +1,4 @@
-//! Decodes bytes that are read in chunks. Invalid UTF-8 becomes U+FFFD.
+//! Decodes bytes that are read in chunks. Invalid UTF-8 becomes U+FFFD, or ends strict decoding.
 ghost use Rattle.std.specs.Prelude.{◌≡◌, ◌+◌, ◌++◌, ◌<◌, ◌≤◌, ℕ, List, None, true, IfOk, length, drop, take};
 ghost use Rattle.std.specs.Str.Lossy.{utf8_error_len, utf8_valid_len};
 ghost use Rattle.terminal.specs.Decoding.{Decodes, IsAllDecoded, IsValidPrefix};
@@ -40,7 +40,7 @@ pub(crate) fn decode(
     Ok((n, false))
 }
 
-// Implements `decode` for texts that end at the first invalid UTF-8.
+// Implements `decode` if `strict` is true.
 fn decode_strict(bytes: &[u8], characters: &mut Vec<char>) -> Result<(usize, bool), AllocError>
     ensures { IfOk result (λ decoded. Decodes true bytes.now decoded.0 decoded.1
         characters.old.items characters.new.items) }
@@ -50,7 +50,7 @@ fn decode_strict(bytes: &[u8], characters: &mut Vec<char>) -> Result<(usize, boo
     Ok((text.len(), is_bad))
 }
 
-/// Implements `decode` for texts in which each invalid sequence becomes U+FFFD.
+/// Implements `decode` if `strict` is false. Each invalid sequence becomes U+FFFD.
 pub(crate) fn decode_lossy(bytes: &[u8], characters: &mut Vec<char>) -> Result<usize, AllocError>
     ensures { IfOk result (λ n. IsAllDecoded bytes.now n characters.old.items characters.new.items) }
 {

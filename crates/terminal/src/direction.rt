@@ -35,14 +35,14 @@ pub(crate) struct Searched {
 }
 
 impl Searched {
-    /// Nothing has been searched yet.
+    /// Returns the state of a search that has not started.
     pub(crate) fn nothing() -> Searched
         ensures { (rules : Rules) (text : List ℕ) → HasSearched rules result text }
     {
         Searched::up_to(0)
     }
 
-    // Nothing of the block that begins at `start` has been searched yet.
+    // Returns the state of a search that has just reached the block at `start`.
     fn up_to(start: usize) -> Searched
         ensures start { result.start ≡ start }
         ensures scanned { result.scanned ≡ 0 }
@@ -161,7 +161,8 @@ fn known_level(
 }
 
 /// Returns the base direction of a text that begins with these characters, of which there are at most
-/// `FIRST_CHARACTERS`. If it depends on what follows them, returns how far they have been searched by now.
+/// `FIRST_CHARACTERS`. If the direction depends on what follows, returns how far the characters have been
+/// searched.
 pub(crate) fn known_base(
     alloc: Global,
     engine: &mut Engine,
@@ -186,7 +187,7 @@ pub(crate) fn known_base(
     }
 }
 
-/// Returns the base direction of a text that has only these characters.
+/// Returns the base direction of a text that consists of these characters.
 pub(crate) fn whole_base(
     alloc: Global,
     engine: &mut Engine,
@@ -211,8 +212,8 @@ fn base_by(level: Option<u8>) -> Base
     }
 }
 
-// Decodes the first bytes of an input, and returns their number. The other bytes are the beginning of a
-// character.
+// Decodes the start of an input, and returns the number of decoded bytes. The other bytes are the beginning
+// of a character.
 fn decode_start(escapes: Escapes, bytes: &[u8], text: &mut Vec<char>) -> Result<usize, AllocError>
     requires { text.old.items ≡ [] }
     ensures { IfOk result (λ n. StartsWith escapes bytes.now n text.new.items) }
@@ -242,8 +243,8 @@ pub fn whole_direction(
     whole_base(alloc, engine, &text, Searched::nothing())
 }
 
-/// Returns the base direction of a text that begins with these bytes, or `None` if it depends on what follows
-/// them.
+/// Returns the base direction of a text that begins with these bytes, or `None` if the direction depends on
+/// what follows.
 pub fn known_direction(
     alloc: Global,
     engine: &mut Engine,

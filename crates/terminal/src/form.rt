@@ -27,7 +27,8 @@ pub enum Prefix<'a> {
     Quotes,
     /// The match of a pattern at the start of a paragraph without its separator. The match is left-to-right
     /// and to the left of all lines. Lines after the first are indented by as many spaces as the match has
-    /// columns. A match that starts later is ignored. Begin the pattern with `\A` to avoid searching for one.
+    /// columns. A match that starts later is ignored. Begin the pattern with `\A` to avoid the search for a
+    /// later match.
     Pattern(&'a Regex),
 }
 
@@ -57,8 +58,8 @@ pub struct Form<'a> {
     /// Writes `LTR` or `RTL` after the first line of each paragraph.
     pub basedir: bool,
     pub escapes: Escapes,
-    /// Stops at the first invalid UTF-8, and at a paragraph over the limit. A paragraph is then written only
-    /// once something follows it.
+    /// Stops at the first invalid UTF-8, and at a paragraph over the limit. In this mode, a paragraph is
+    /// written only once something follows it.
     pub strict: bool,
     /// A prefix that is not narrower than the width is laid out as text.
     pub prefix: Prefix<'a>,

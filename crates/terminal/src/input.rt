@@ -105,8 +105,8 @@ impl Held {
     }
 
     // Adds the lines of the text that is left at the end of the input to the page, up to a block that is too
-    // long. Returns whether there is such a block. If not, the last input's page ends in a newline only if
-    // its text ends a line.
+    // long. Returns whether a block is too long. If no block is, the page of the last input ends in a newline
+    // only if the text ends a line.
     fn gather_last(
         &mut self,
         alloc: Global,
@@ -154,7 +154,7 @@ fn remove_front(text: &mut Vec<char>, n: usize)
     text.truncate(len - n);
 }
 
-// Ends an input that has no more bytes.
+// Ends a run whose input has no more bytes.
 fn finish<W: Sink>(
     alloc: Global,
     writer: &mut W,
@@ -229,7 +229,7 @@ fn step<R: Source, W: Sink>(
     }
 }
 
-/// Reads a text to its end, and writes the lines of what it shows, at a width that must not be 0.
+/// Reads a text to its end, and writes the lines of what it shows.
 ///
 /// Invalid UTF-8 is read as U+FFFD, unless the form is strict, and a U+FEFF at the start of the text is
 /// dropped. The lines of a paragraph are written as soon as its end is known, before more is read. Only the

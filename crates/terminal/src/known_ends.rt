@@ -16,7 +16,7 @@ pub(crate) enum FirstEnd {
     /// The block has this number of characters.
     At(usize),
     /// The end is not known. No block ends before this index, which is the length of the text or the index of
-    /// a CR. The text after the CR was scanned this far.
+    /// a CR. The second field is how far the text after the CR was scanned.
     After(usize, Passed),
 }
 
@@ -67,7 +67,7 @@ fn search_end(engine: &Engine, text: &[char], from: usize, passed: Passed) -> Fi
 }
 
 // Returns the index of the first character, from an index on, that is followed by a paragraph boundary, or of
-// the last character. No block ends before it, whatever follows the text.
+// the last character. No block ends before this index, whatever follows the text.
 fn skip_uncut(engine: &Engine, text: &[char], from: usize) -> usize
     requires within { from ≤ length text.now }
     requires none { AreNoEnds (cut_by (rules_of engine.now)) from text.now }
@@ -82,7 +82,7 @@ fn skip_uncut(engine: &Engine, text: &[char], from: usize) -> usize
 }
 
 /// Finds the first end of a block in a text. No block may end before `from`, whatever follows the text.
-/// `passed` is how far the text after the character there was scanned.
+/// `passed` is how far the text after the character at `from` was scanned.
 pub(crate) fn first_end(engine: &Engine, text: &[char], from: usize, passed: Passed) -> FirstEnd
     requires within { from ≤ length text.now }
     requires none { AreNoEnds (cut_by (rules_of engine.now)) from text.now }

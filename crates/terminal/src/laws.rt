@@ -8,7 +8,7 @@ pub fn prints_plain_lines()
     ensures { PrintsPlainLines }
 {}
 
-/// States, as a theorem, that a paragraph without a prefix is printed as a whole at the width.
+/// States, as a theorem, that a paragraph without a prefix is printed as a whole, at the full width.
 pub fn prints_without_prefix()
     ensures { PrintsWithoutPrefix }
 {}

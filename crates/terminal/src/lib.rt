@@ -1,7 +1,7 @@
 //! Lays out what a terminal shows for a text, and adds the lines to a page, with each character in its style.
 //!
-//! `push_text` takes characters with their control sequences. For a text in which nothing is a sequence,
-//! replace each character by its `picture` first.
+//! `push_text` takes characters with their control sequences. To show control sequences as text, replace each
+//! character by its `picture` first.
 #![tactic(auto)]
 
 mod block;

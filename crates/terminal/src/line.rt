@@ -17,7 +17,7 @@ use lines::{Print, VisualLine};
 use sequences::{StyledText, push_between};
 use std::alloc::AllocError;
 
-// Appends the sequences between characters with two styles.
+// Appends the sequences that change the style with one number to the style with another.
 fn push_change(
     text: &StyledText,
     before: usize,
@@ -40,7 +40,7 @@ fn push_change(
     )
 }
 
-// Appends a character, or spaces in its place.
+// Appends a character or, if `spaces` is not 0, that number of spaces instead.
 fn push_cells(spaces: usize, c: char, out: &mut Vec<char>) -> Result<(), AllocError>
     ensures text { OnOk result (out.new.items
         ≡ out.old.items ++ (if spaces == 0 then c ∷ [] else replicate spaces 32)) }
@@ -53,7 +53,6 @@ fn push_cells(spaces: usize, c: char, out: &mut Vec<char>) -> Result<(), AllocEr
     push_spaces(spaces, out)
 }
 
-// Appends spaces.
 fn push_spaces(count: usize, out: &mut Vec<char>) -> Result<(), AllocError>
     ensures { OnOk result (out.new.items ≡ out.old.items ++ replicate count 32) }
 {
@@ -86,7 +85,7 @@ fn spaces_at(line: &VisualLine<'_>, text: &[char], place: usize) -> usize
     }
 }
 
-// Returns the number of characters in visual order.
+// Returns the number of a line's characters in visual order.
 fn ordered_len(line: &VisualLine<'_>, print: &Print) -> usize
     ensures { result ≡ min (length (ordered_chars print.now line.now)) (length line.now.vtol) }
 {

@@ -24,7 +24,7 @@ impl<'a> Part<'a> {
     ghost use Rattle.terminal.specs.Parts.{styles_in};
     ghost use Rattle.terminal.specs.Prefixes.{or_one};
 
-    /// Returns the characters in a range.
+    /// Returns the characters in a range. The style numbers may continue past the range.
     pub(crate) fn range(&self, start: usize, end: usize) -> Part<'a>
         requires { (start ≤ end) × (end ≤ length self.now.characters.now) }
         ensures characters { result.characters.now ≡ slice_range self.now.characters.now start end }
@@ -94,7 +94,7 @@ pub(crate) fn style_numbered(text: &StyledText, number: usize) -> StyleRef<'_>
     }
 }
 
-// Replaces the numbers in a range.
+// Sets all numbers in a range to one number.
 fn put_number(numbers: &mut [usize], start: usize, end: usize, number: usize)
     requires { (start ≤ end) × (end ≤ length numbers.old) }
     ensures inside { (k : ℕ) → start ≤ k → k < end → slice_index numbers.new k ≡ number }

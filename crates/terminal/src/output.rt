@@ -55,7 +55,7 @@ impl Drop for Output {
 pub(crate) struct Left {
     /// The index at which the rest begins.
     pub(crate) start: usize,
-    /// The number of characters of the rest after which no block ends, whatever follows the text.
+    /// The number of characters at the start of the rest that end no block, whatever follows the text.
     pub(crate) scanned: usize,
     /// If the next character is a CR, how far the text after it was scanned.
     pub(crate) passed: Passed,
@@ -64,7 +64,7 @@ pub(crate) struct Left {
 }
 
 impl Output {
-    /// Makes an output for an input that begins. Allocates nothing.
+    /// Makes an output for the start of an input. Allocates nothing.
     pub(crate) fn new(alloc: Global) -> Output
         ensures pen { pen_of result.scanner ≡ START }
         ensures empty { styled_of result.scanner.text ≡ [] }
@@ -109,10 +109,10 @@ impl Output {
         Ok(shown.last)
     }
 
-    /// Adds the lines of the blocks of a text that have ended, whatever follows it, up to a block that is too
-    /// long. If the form is strict, holds back a block that nothing follows yet. No block ends before the
-    /// index `scanned`, whatever follows the text. If the character there is a CR, the text after it was
-    /// scanned as far as `passed`.
+    /// Adds the lines of the blocks of a text whose ends are known, up to a block that is too long. If the
+    /// form is strict, holds back a block that nothing follows yet. No block ends before the index `scanned`,
+    /// whatever follows the text. If the character there is a CR, the text after it was scanned as far as
+    /// `passed`.
     pub(crate) fn push_ended(
         &mut self,
         alloc: Global,
@@ -169,9 +169,9 @@ impl Output {
         }
     }
 
-    /// Adds the lines of the blocks of a text that nothing follows, up to a block that is too long. Returns
-    /// whether there is such a block. If not, and the text is the last one, the page ends in a newline only
-    /// if the text ends a line.
+    /// Adds the lines of all blocks of a complete text, up to a block that is too long. Returns whether a
+    /// block is too long. If no block is, and the text is the last one, the page ends in a newline only if
+    /// the text ends a line.
     pub(crate) fn push_last(
         &mut self,
         alloc: Global,
@@ -216,7 +216,7 @@ impl Output {
         }
     }
 
-    /// Writes the lines.
+    /// Writes the lines on the page, and empties the page.
     pub(crate) fn write<W: Sink>(&mut self, writer: &mut W) -> Result<(), Fault>
         requires { self.old.written ≤ (W.state writer.old).passed }
         ensures ok { OnOk result (Wrote self.old.page.bytes.items (W.state writer.old) (W.state writer.new)) }
@@ -256,7 +256,7 @@ fn is_held(form: &Form, block: usize, len: usize) -> bool
     form.strict && block == len
 }
 
-// Returns whether a block of this length ends a run.
+// Returns whether a block of this length is too long for a form.
 fn is_too_long(form: &Form, len: usize) -> bool
     ensures { result ≡ (form.now.strict && nat_lt PARAGRAPH_LIMIT len) }
 {
@@ -264,8 +264,8 @@ fn is_too_long(form: &Form, len: usize) -> bool
 }
 
 // Returns the rest of a text. The rest begins at `start`, has `len` characters, and has no known end. If the
-// form is strict, the rest is too long if its first block is, or if the sequence after its CR is longer than
-// a block may be.
+// form is strict, the rest is too long in two cases: its first block is over the limit, or the rest exceeds
+// twice the limit.
 fn left_open(form: &Form, start: usize, scanned: usize, passed: Passed, len: usize) -> Left
     ensures start { result.start ≡ start }
     ensures scanned { result.scanned ≡ scanned }

@@ -1,4 +1,4 @@
-//! Finds the character after a CR in a text that is read in pieces.
+//! Finds the character after a CR in a text that is read in chunks.
 ghost use Rattle.std.specs.Prelude.{◌≡◌, ◌+◌, List, ℕ, false, true, IfErr, IfOk};
 ghost use Rattle.sequences.specs.declared.known.Progress.TheVariants.{Start};
 ghost use Rattle.terminal.specs.Ends.{knows_next};
@@ -8,7 +8,7 @@ ghost use Rattle.terminal.specs.Texts.{next_character};
 use crate::ends::skipped_len;
 use sequences::Progress;
 
-/// How far the text after a CR was scanned, if its next character is not known.
+/// How far the text after a CR was scanned for the next character, which is not known yet.
 #[derive(Clone, Copy)]
 pub(crate) struct Passed {
     // The start of the first part whose end is not known. All parts before it are sequences and dropped
@@ -20,14 +20,14 @@ pub(crate) struct Passed {
 }
 
 impl Passed {
-    /// Nothing has been scanned yet.
+    /// Returns the state of a scan that has not started.
     pub(crate) fn nothing() -> Passed
         ensures { (text : List ℕ) → HasPassed result text }
     {
         Passed::at(0)
     }
 
-    // Nothing of the part that begins at `start` has been scanned yet.
+    // Returns the state of a scan that has just reached the part at `start`.
     fn at(start: usize) -> Passed
         ensures start { result.start ≡ start }
         ensures scanned { result.scanned ≡ 0 }

@@ -32,7 +32,7 @@ pub struct Start {
 /// What a search for the direction keeps between two reads.
 struct Search {
     decoder: Decoder,
-    // The bytes that were read, and their characters without those of the waiting bytes.
+    // The bytes that were read, and the first characters decoded from them: at most `FIRST_CHARACTERS`.
     bytes: Vec<u8>,
     text: Vec<char>,
     // How far the characters were searched.
@@ -82,7 +82,8 @@ impl Search {
         requires counted { self.old.decoder.decoded + (self.old.decoder.waiting + len) ≤ 2 ^ 64 - 1 }
         requires few { length self.old.text.items < FIRST_CHARACTERS }
         requires searched { HasSearched (rules_of engine.old) self.old.searched self.old.text.items }
-        ensures bytes { OnOk result (self.new.bytes.items ≡ self.old.bytes.items ++ drop self.old.decoder.waiting
+        ensures bytes { OnOk result (self.new.bytes.items ≡ self.old.bytes.items
+            ++ drop self.old.decoder.waiting
             (take (self.old.decoder.waiting + len) self.old.decoder.chunk.items)) }
         ensures advances { IfOk result (λ found. Advances (rules_of engine.old) escapes
             (take (self.old.decoder.waiting + len) self.old.decoder.chunk.items) self.old self.new found) }
@@ -100,7 +101,7 @@ impl Search {
         }
     }
 
-    // Returns the direction if nothing follows.
+    // Returns the direction of an input that has ended.
     fn finish(&mut self, alloc: Global, engine: &mut Engine) -> Result<Base, AllocError>
         requires few { length self.old.text.items < FIRST_CHARACTERS }
         requires searched { HasSearched (rules_of engine.old) self.old.searched self.old.text.items }

@@ -13,7 +13,7 @@ use std::alloc::{AllocError, Global};
 use stream::Page;
 
 /// Returns what is shown for a character if sequences are shown as text. For a control that is otherwise
-/// dropped, this is its picture, U+2400 to U+241F or U+2421, or U+FFFD for one of C1. Other characters are
+/// dropped, this is its picture, U+2400 to U+241F or U+2421, or U+FFFD for a C1 control. Other characters are
 /// shown unchanged.
 pub fn picture(c: char) -> char
     ensures { result ≡ picture c }

@@ -11,7 +11,7 @@ use Rattle.terminal_options.specs.declared.fault.OptionFault.{OptionFault}
 use Rattle.terminal_options.specs.declared.fault.OptionFault.TheVariants as fault
 use Rattle.terminal_options.specs.declared.options.Settings.{Settings}
 
--- the options `--quotes` and `--prefix` for a prefix
+-- the values of `--quotes` and `--prefix` that specify a prefix
 abbrev pub options_for : Prefix → Bool × Option Text
 options_for Absent = (false, None)
 options_for Quotes = (true, None)
@@ -20,7 +20,7 @@ options_for (Pattern text) = (false, Some text.now)
 abbrev pub has_prefix : List Row → Bool
 has_prefix rows = is_given (codes "quotes") rows || is_some (first_of (codes "prefix") rows)
 
--- if the arguments have either option, those in the environment are ignored
+-- if the arguments have either option, both options in the environment are ignored
 abbrev pub prefix_rows : Rows → List Row
 prefix_rows rows = if has_prefix rows.line then rows.line else rows.environment
 

@@ -1,7 +1,7 @@
-//! The options of the command `hordguli`, parsed with `clap`: the settings, and why they are refused.
+//! The options of the command `hordguli`, parsed with `clap`: the settings, and why options are refused.
 //!
 //! Options come from the environment variable `HORDGULI_OPTIONS` and from the arguments, which override it.
-//! `settings` takes both. An `OptionFault` has an exit status, and is displayed as its message.
+//! `settings` reads both. An `OptionFault` has an exit status, and is displayed as its message.
 #![tactic(auto)]
 
 mod choices;

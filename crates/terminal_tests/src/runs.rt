@@ -56,7 +56,7 @@ fn is_output(
     Ok(true)
 }
 
-// Does the same as `is_output` for an input that is not the last one.
+// Does the same as `is_output` for an input that is followed by another input.
 fn is_written_as(
     alloc: Global,
     engine: &mut Engine,
@@ -98,7 +98,7 @@ fn last_newline_is_written_after_all_that_end_a_line(rt: HostRuntime) -> Result<
         (b"a\xc2\x85".as_slice(), "a\n"),
         (b"a\xe2\x80\xa8".as_slice(), "a\n"),
         (b"a\xe2\x80\xa9".as_slice(), "a\n"),
-        // Sequences and dropped controls after the separator show nothing.
+        // Sequences and dropped controls after the last separator add nothing to the output.
         (b"a\n\x1b[31m".as_slice(), "a\n"),
         (b"a\n\x07".as_slice(), "a\n"),
         (b"a\x0b\x1b[31m".as_slice(), "a\n"),
@@ -276,7 +276,7 @@ fn a_full_sink_ends_the_run(rt: HostRuntime) -> Result<(), Fail> {
     Ok(())
 }
 
-// Adds a byte `count` times.
+// Appends a byte `count` times.
 fn push_times(byte: u8, count: usize, bytes: &mut Vec<u8>) -> Result<(), Fail> {
     for _ in 0..count {
         bytes.push(byte)?;

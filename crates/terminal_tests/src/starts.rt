@@ -1,5 +1,5 @@
-//! Tests of the search for a direction. Each row is an input, its direction, and how much of the input is read
-//! to find it.
+//! Tests of the search for a direction. Each row is an input, its direction, and how much of the input is
+//! read to find the direction.
 use crate::texts::engine;
 use bidi::Base;
 use device::FromRead;
@@ -10,7 +10,7 @@ use std::io::{ErrorKind, Read};
 use std::test::Fail;
 use terminal::{Escapes, FIRST_CHARACTERS, Start, known_direction, read_start, whole_direction};
 
-// A reader that returns one byte for each call. After the last one, it fails or ends.
+// A reader that returns one byte for each call. After the last byte, the next call fails or reports the end.
 #[derive(Drop)]
 struct Bytes<'a> {
     rest: &'a [u8],
@@ -72,11 +72,11 @@ fn direction_is_found_when_a_strong_paragraph_ends(rt: HostRuntime) -> Result<()
         ("\n\n\nא\n\n", 6, Base::Rtl),
         // The characters of an isolate do not count.
         ("\u{2067}a\u{2069}\nא\nb", 11, Base::Rtl),
-        // After CR, the next character that is not in a sequence is needed.
+        // After CR, the next character outside escape sequences must be read too.
         ("א\r\u{1b}[ma\nb", 7, Base::Rtl),
         ("א\r\n", 4, Base::Rtl),
         ("1\r\u{1b}]0;ab\u{7}\r\na\nb", 13, Base::Ltr),
-        // The second character replaces the first one.
+        // The character after the backspace replaces the first character.
         ("א\u{8}a\nב\n", 5, Base::Ltr),
         ("\u{feff}א\nb", 6, Base::Rtl),
     ] {
@@ -93,7 +93,7 @@ fn direction_is_found_at_the_end_or_at_a_failure(rt: HostRuntime) -> Result<(), 
         (b"12\n3".as_slice(), Base::Ltr),
         (b"\xd7\x90".as_slice(), Base::Rtl),
         (b"12\n\xd7\x90\r".as_slice(), Base::Rtl),
-        // Bytes of an incomplete character are U+FFFD.
+        // The bytes of an incomplete character are decoded as U+FFFD.
         (b"12\n\xd7".as_slice(), Base::Ltr),
         (b"\x1b]0;\xd7\x90".as_slice(), Base::Rtl),
     ] {
@@ -102,7 +102,7 @@ fn direction_is_found_at_the_end_or_at_a_failure(rt: HostRuntime) -> Result<(), 
     Ok(())
 }
 
-// Returns digits, and text after them.
+// Returns `count` digits, followed by a text.
 fn after_digits(alloc: Global, count: usize, text: &str) -> Result<Vec<u8>, Fail> {
     let mut bytes = Vec::new(alloc);
     for _ in 0..count {
@@ -125,7 +125,8 @@ fn only_the_first_characters_count(rt: HostRuntime) -> Result<(), Fail> {
     Ok(())
 }
 
-// Returns whether these functions find the same direction in bytes, and whether it depends on what follows.
+// Returns whether `whole_direction` finds this direction, and `known_direction` finds the same
+// direction if `is_known` is true, and otherwise none.
 fn is_direction(
     alloc: Global,
     engine: &mut Engine,

@@ -1,4 +1,4 @@
-//! Tests of the lines of texts. Each row is a text and its output.
+//! Tests of the lines that are written for texts. Each row is a text and its output.
 use lines::{Engine, Options, PARAGRAPH_LIMIT};
 use std::alloc::Global;
 use std::test::Fail;
@@ -74,7 +74,7 @@ fn characters_keep_their_styles(rt: HostRuntime) -> Result<(), Fail> {
     for (text, expected) in [
         ("ab\n", "ab\n"),
         ("\u{1b}[31mab\u{1b}[m c\n", "\u{1b}[31mab\u{1b}[m c\n"),
-        // A Hebrew text is reversed, and its styles with it.
+        // Hebrew text is reversed together with its styles.
         ("\u{1b}[31mאב\u{1b}[mגד\n", "דג\u{1b}[31mבא\u{1b}[m\n"),
         ("שלום \u{1b}[1mab\u{1b}[m\n", "\u{1b}[1mab\u{1b}[m םולש\n"),
     ] {

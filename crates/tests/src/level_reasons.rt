@@ -77,7 +77,7 @@ fn space_takes_the_direction_of_a_bracket_that_n0_has_set(rt: HostRuntime) -> Re
     Ok(result?)
 }
 
-// An override in an isolate: the type of the letter becomes L, and its level is that of the override.
+// An override in an isolate: the letter gets the type L and the override's level.
 const OVERRIDDEN: [char; 5] = ['a', '\u{2067}', '\u{202D}', '\u{5D0}', '\u{2069}'];
 
 fn is_overridden(reasons: &ParagraphReasons) -> bool {
@@ -144,7 +144,7 @@ fn unpaired(case: BracketCase) -> BracketStep {
     }
 }
 
-// What N0 does with a mark: it sets the mark's type together with that of the bracket at an index.
+// What N0 does with a mark: N0 sets the mark's type together with the type of the bracket at an index.
 fn mark_of(bracket: usize) -> BracketStep {
     BracketStep {
         case: None,
@@ -153,7 +153,7 @@ fn mark_of(bracket: usize) -> BracketStep {
     }
 }
 
-// Returns whether N0 does this with the characters of a sequence.
+// Returns whether N0 takes the expected steps for the characters of a sequence.
 fn are_brackets(steps: &[SequenceStep], expected: &[BracketStep]) -> bool {
     if steps.len() != expected.len() {
         return false;
@@ -166,7 +166,7 @@ fn are_brackets(steps: &[SequenceStep], expected: &[BracketStep]) -> bool {
     true
 }
 
-// Returns whether N0 does this with the characters of the sequence with a given number.
+// Returns whether N0 takes the expected steps for the characters of the sequence with a given number.
 fn have_brackets(reasons: &ParagraphReasons, sequence: usize, expected: &[BracketStep]) -> bool {
     match reasons.sequences.get(sequence) {
         Some(sequence) => are_brackets(&sequence.steps, expected),
@@ -243,7 +243,7 @@ fn pair_after_the_embedding_direction_is_case_c2(rt: HostRuntime) -> Result<(), 
     expect_brackets(&rt, rt.alloc(), &text, 0, &expected)
 }
 
-// The inner pair has the outer one before it, which the letter at the end makes R.
+// The last letter makes the outer pair R, so the context before the inner pair is R.
 #[test]
 fn earlier_pair_is_the_context_of_a_later_one(rt: HostRuntime) -> Result<(), Fail> {
     let text = ['\u{5D0}', 'a', '(', '[', 'a', ']', '\u{5D1}', ')'];

@@ -120,7 +120,7 @@ fn are_from(levels: &[u8], place: usize, wanted: &[u8]) -> bool {
     }
 }
 
-// Returns whether a resolver finds these levels from an index on, from the characters of a list.
+// Returns whether a resolver finds these levels from an index on, given the characters of a list.
 fn is_found_of_text(
     alloc: Global,
     resolver: &mut Resolver,
@@ -135,7 +135,7 @@ fn is_found_of_text(
     Ok(is_base && are_from(&levels, place, wanted))
 }
 
-// Returns whether a resolver finds these levels from an index on, from the classes and bracket types of a
+// Returns whether a resolver finds these levels from an index on, given the classes and bracket types of a
 // list.
 fn is_found_by(
     alloc: Global,
@@ -151,8 +151,8 @@ fn is_found_by(
     Ok(is_base && are_from(&levels, place, wanted))
 }
 
-// Returns whether a resolver finds these levels from an index on, both from the characters of a list and from
-// their classes and bracket types.
+// Returns whether a resolver finds these levels from an index on, given the characters of a list, and also
+// given their classes and bracket types.
 fn is_found(
     alloc: Global,
     resolver: &mut Resolver,
@@ -168,8 +168,8 @@ fn is_found(
 }
 
 // Returns the list with an unmatched PDF before it. X9 removes the PDF, so the levels after it are those of
-// the list alone. But these levels are found by the full rules, not by the fast path for a paragraph that is
-// a single sequence.
+// the list alone. But the PDF makes the resolver apply the full rules, instead of the fast path for a
+// paragraph that is a single sequence.
 fn after_pdf(alloc: Global, text: &[char]) -> Result<Vec<char>, AllocError> {
     let mut longer = Vec::new(alloc);
     longer.push('\u{202C}')?;

@@ -1,5 +1,4 @@
-//! Tests of tables, levels, scripts, marks, stores and streams, through public calls. There is a module for
-//! each library.
+//! Tests of tables, levels, scripts, marks, stores, streams and terminal output, through public calls.
 #![tactic(auto)]
 
 #[cfg(test)]

@@ -7,7 +7,7 @@ use std::process::Abort;
 use std::test::Fail;
 use ucd::{BidiClass, Tables};
 
-// What is expected of a list of reasons: an item for each character.
+// The expected values in a list of reasons, one for each character.
 #[derive(Clone, Copy)]
 struct Expected<'a> {
     levels: &'a [u8],
@@ -270,8 +270,8 @@ fn isolate_without_an_end_has_no_match(rt: HostRuntime) -> Result<(), Fail> {
     check_list(&rt, rt.alloc(), &text, &expected)
 }
 
-// Returns a text with 126 embeddings, of which the last overflows. A letter follows, and then each of two
-// PDFs with a letter after it.
+// Returns a text with 126 embeddings, of which the last overflows. Then a letter follows, and then two PDFs,
+// each followed by a letter.
 fn deep_text(alloc: Global) -> Result<Vec<char>, AllocError> {
     let mut text = Vec::new(alloc);
     for k in 0..126 {

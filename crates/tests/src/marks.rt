@@ -274,8 +274,8 @@ fn agrees_where(tables: &Tables, whole_numbers: bool, kept: &mut Kept) -> Result
     Ok(kept.marks.as_slice() == kept.expected.as_slice())
 }
 
-// Two characters of each line breaking class, from U+0100 on, which is BK. Some characters are wide, marks or
-// unassigned pictographs.
+// Two characters of each line breaking class, from U+0100 (BK) on. Some characters are wide, combining marks
+// or unassigned pictographs.
 const CLASS_FILES: UcdFiles<'_> = UcdFiles {
     line_break: b"0100..0101;BK\n0102..0103;CM\n0104..0105;CR\n0106..0107;GL\n0108..0109;LF\n\
         010A..010B;NL\n010C..010D;SP\n010E..010F;WJ\n0110..0111;ZW\n0112..0113;ZWJ\n\

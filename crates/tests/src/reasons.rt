@@ -109,7 +109,7 @@ fn percent_after_a_slash_is_lb31_without_whole_numbers(rt: HostRuntime) -> Resul
     check(&rt, rt.alloc(), "1/%", false, &rules)
 }
 
-// Returns whether a reason has this last base, this last base that is not a space, and these classes.
+// Returns whether a reason names this last base, this last base that is not a space, and these classes.
 fn has_parts(
     reason: &Reason,
     base: usize,

@@ -1,4 +1,4 @@
-//! Worked examples of the scripts of characters, and of their runs.
+//! Worked examples of characters' scripts, and of script runs.
 use crate::files::{FILES, read};
 use scripts::{Script, ScriptRun, iso_code, resolve, script_runs};
 use std::alloc::{AllocError, Global};
@@ -47,8 +47,8 @@ fn are_scripts(scripts: &[Script], letters: &str) -> bool {
     all_right
 }
 
-// Returns whether the runs follow one another, up to the end of a text, and each run has another script than
-// the run before it.
+// Returns whether the runs follow one another, up to the end of a text, and the script of each run differs
+// from the script of the run before it.
 fn are_runs(runs: &[ScriptRun], len: usize) -> bool {
     let mut all_right = true;
     let mut start = 0_usize;

@@ -1,5 +1,5 @@
-//! The examples in the first lines of `ucd`, `bidi`, `reorder`, `breaks` and `store`. `tests/docs/run` checks
-//! that they are here.
+//! The examples in the crate comments of `ucd`, `bidi`, `reorder`, `breaks` and `store`. `tests/docs/run`
+//! checks that this file contains them.
 use crate::files::{FILES, read};
 use crate::levels::properties_of;
 use bidi::{Base, resolve};
@@ -78,7 +78,7 @@ fn break_is_allowed_after_a_space_and_required_at_the_end(rt: HostRuntime) -> Re
     Ok(result?)
 }
 
-// An item with a number of characters, all of them ASCII, and of lines.
+// An item with a number of characters, all of them ASCII, and a number of lines.
 #[derive(Drop)]
 struct Paragraph(usize, usize);
 

@@ -1,5 +1,5 @@
-//! Compares both stores with each other. The tests must also pass if any one allocation fails: a failed
-//! `replace` changes nothing, and is tried again.
+//! Compares the two stores. The tests must also pass if any one allocation fails: a failed `replace` changes
+//! nothing, and is tried again.
 ghost use Rattle.std.specs.Prelude.{◌≡◌, ◌+◌, ◌-◌, ◌^◌, ◌<◌, sum_by};
 
 use std::alloc::{AllocError, Global};
@@ -154,7 +154,7 @@ fn replace<S: ParagraphStore<Item>>(
     store.replace(range, new_items)
 }
 
-// Returns the sum of the lines of the parts, with `more` added to each. A sum above 2^64−1 becomes 2^64−1.
+// Returns the sum of the parts, with `more` added to each part. A sum above 2^64−1 becomes 2^64−1.
 fn sum(parts: &[usize], more: usize) -> usize
     ensures { result < 2 ^ 64 - 1 → result ≡ sum_by (λ lines. lines + more) parts.now }
 {
@@ -176,8 +176,8 @@ fn exchange_all<S: ParagraphStore<Item>>(
     store.exchange_all_by(by, parts);
 }
 
-// Exchanges the part of each item by `Exchange`. Asserts that there is one part per item and that the new sum
-// is below `LIMIT`.
+// Exchanges the part of each item through `Exchange`. Asserts that there is one part per item and that the
+// new sum is below `LIMIT`.
 fn exchange_lines<S: ParagraphStore<Item>>(rt: &impl Abort, store: &mut S, parts: &mut Vec<usize>) {
     assert!(rt; sum(parts, 0) < LIMIT && parts.len() == store.count());
     store.exchange_all(parts);
@@ -324,8 +324,8 @@ fn size_of<S: ParagraphStore<Item>>(store: &S) -> [usize; 5] {
     [store.count(), chars, lines, bytes, utf16]
 }
 
-// Replaces items, and tries again after an allocation failure. The new items were then returned in order, and
-// the store has the same sums as before.
+// Replaces items, and tries again after an allocation failure. Asserts that a failed call returns the new
+// items in order, and leaves the sums of the store unchanged.
 fn replace_again<S: ParagraphStore<Item>>(
     rt: &impl Abort,
     store: &mut S,
@@ -357,7 +357,7 @@ fn replaced<S: ParagraphStore<Item>>(
     replace_again(rt, store, range, first, items(alloc, first, count)?)
 }
 
-// Returns whether both stores have returned equal items, as many as there are in the range.
+// Returns whether both stores have returned the same items, and as many items as the range contains.
 fn are_replaced(old: &[Item], other: &[Item], (start, end): (usize, usize)) -> bool {
     old == other && Some(old.len()) == end.checked_sub(start)
 }
@@ -501,8 +501,8 @@ fn two_items_take_the_place_of_three(rt: HostRuntime) -> Result<(), Fail> {
     Ok(check_stores(&rt, rt.alloc(), Check::ThreeByTwo)?)
 }
 
-// Returns whether each item has seven more lines than its part had, and the part has as many lines as the
-// item had.
+// Returns whether each item has seven more lines than its new part, and each returned part is the item's
+// previous number of lines.
 fn are_exchanged<S: ParagraphStore<Item>>(store: &S, parts: &[usize]) -> bool {
     let mut all_right = parts.len() == store.count();
     for (index, lines) in parts.iter().enumerate() {

@@ -1,5 +1,5 @@
-//! Tests what a terminal shows for texts, and how this is written. Each row is a text and its expected
-//! output.
+//! Tests which characters and styles a terminal shows for a text, and how they are written. Each row is a
+//! text and its expected output.
 use sequences::{
     Link, MAX_LINKS_LEN, NO_LINK, PLAIN, Progress, Scanner, StyleRef, StyledText,
     is_sequence_known, push_between, sequence_len, shows_itself, shows_no_controls, shows_pieces,
@@ -16,8 +16,8 @@ fn push_characters(text: &str, out: &mut Vec<char>) -> Result<(), AllocError> {
     Ok(())
 }
 
-// Returns the style in which a character is shown, given the style of the character before it, and the next
-// run.
+// Returns the style of a character and the index of the next run, given the style of the character before it
+// and the index of the run that comes next.
 fn style_at<'a>(
     text: &'a StyledText,
     k: usize,
@@ -49,7 +49,7 @@ fn push_line(text: &StyledText, out: &mut Vec<char>) -> Result<(), AllocError> {
     push_between(&before, &plain, out)
 }
 
-// Returns the bytes that are written for the characters that a text shows.
+// Returns the characters that are written for what a text shows.
 fn rewritten(alloc: Global, text: &[char]) -> Result<Vec<char>, AllocError> {
     let mut scanner = Scanner::new(alloc);
     scanner.push_text(text)?;
@@ -58,7 +58,7 @@ fn rewritten(alloc: Global, text: &[char]) -> Result<Vec<char>, AllocError> {
     Ok(out)
 }
 
-// Returns whether a text is written as expected, and whether that output, taken as a text, is written
+// Returns whether a text is written as expected, and whether that output, read as a text again, is written
 // unchanged.
 fn is_written_as(alloc: Global, text: &str, expected: &str) -> Result<bool, AllocError> {
     let mut characters = Vec::new(alloc);

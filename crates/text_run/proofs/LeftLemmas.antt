@@ -42,7 +42,7 @@ front_some bytes some = go (front_of bytes) refl
         absurd (omega (arith, some, length-take-le (utf8_valid_len bytes) bytes (utf8_valid_len_le bytes), ap length (sym encoded ∙ ap encode_utf8_all none)))
     go (c ∷ cs) is = omega (arith, ap length is)
 
--- k is below n, and so is k + 1 if `bad`
+-- k, or k + 1 if `bad` is true, is less than n
 pub left_by : (k n : ℕ) (bad : Bool) → k < n → (bad ≡ true → k + 1 < n) → (if bad then k + 1 else k) < n
 left_by k n true less more = more refl
 left_by k n false less more = less

@@ -14,7 +14,7 @@ use Rattle.lines.specs.declared.printing.print.PrintFault.{PrintFault}
 use Rattle.lines.specs.declared.printing.print.PrintFault.TheVariants.{Memory, Write}
 use Rattle.text_run.specs.Pages.{prints_some}
 
--- whether no part of a line is printed
+-- whether the options print no part of a paragraph
 record AreOff (basedir novisual ltov vtol levels : Bool) : Type 0 where
   pub basedir_off : basedir ≡ false
   pub novisual_on : novisual ≡ true

@@ -1,4 +1,4 @@
--- The lines of a text's first paragraphs are put on a page, one paragraph at a time.
+-- Appending the lines of a text's first paragraphs to a page, one paragraph at a time.
 use Rattle.std.proofs.Common.{◌≡◌, ℕ, suc, ◌+◌, ◌<◌, ◌≤◌, Bool, true, List, [], ◌∷◌, ◌++◌, length, take, drop, Some, None, sym, subst, ap, ◌∙◌, arith}
 use Rattle.std.specs.List.{concat}
 use Rattle.std.proofs.lemmas.Bool.{and_parts, leb-true}

@@ -1,4 +1,4 @@
--- The start of a run, and its steps, by the rules that the engine had at the start.
+-- The state at the start of a run, and steps by the rules that the engine had at the start.
 use Rattle.std.proofs.Common.{◌≡◌, ℕ, Bool, List, [], length, take, Option, Some, None, Result, Err, vec_len, refl, sym, subst, ap, ◌∙◌, arith}
 use Rattle.std.specs.Str.{chars}
 use Rattle.std.specs.Io.KnownBytes.{Consumes}

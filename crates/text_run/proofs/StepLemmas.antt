@@ -1,4 +1,4 @@
--- One step of a run, as it follows from the results of the calls that it makes.
+-- One step of a run. Its contract follows from the results of the calls that it makes.
 use Rattle.std.proofs.Common.{◌≡◌, ◌⊎◌, inl, inr, ⊎_elim, ℕ, ◌+◌, ◌<◌, ◌≤◌, ◌==◌, Bool, true, false, List, [], ◌∷◌, ◌++◌, length, take, drop, min, Option, Some, None, unwrap_or, Result, Ok, Err, vec_len, Vec, Global, encode_utf8_all, refl, sym, subst, ap, ap₂, ◌∙◌, arith, true≢false, if◌then◌else◌}
 use Rattle.std.specs.Prelude.{is_none, is_some, IsErrOf, OnOk}
 use Rattle.std.specs.List.{concat}
@@ -121,7 +121,7 @@ module _ (rules : Rules) (width : ℕ) (print : Print) (reader_old writer_old : 
         let waiting = take held.waiting held.chunk.items in
         is_bad-after s.is_at.decoded waiting s.is_at.utf8 ∙ ap (λ n. is_some (utf8_error_len (drop n waiting))) s.beginning.none ∙ ap is_some s.beginning.fault
 
-  -- if some more bytes are read, `IsAt` holds with these bytes after the waiting ones
+  -- if more bytes are read, `IsAt` holds with these bytes after the waiting ones
   pub at_read : (reader_new : Device) (waiting text more : List ℕ)
       (at : IsAt rules width print reader_old reader writer_old writer waiting text []) → at.gathered ≡ []
       → length text ≤ 1048576 → length waiting < 4
@@ -328,7 +328,8 @@ module _ (rules : Rules) (width : ℕ) (print : Print) (reader_old writer_old : 
           (subst (λ k. Prints k print engine_old engine_new) all
           (prints_more print engine_old engine engine_new (length (concat sent)) (length held.text.items) s.counts counts))
 
-      -- if memory runs out before the last paragraph is written, its lines are still to be written
+      -- if memory runs out before the last paragraph is written, the lines of a paragraph are still to be
+      -- written, as `WantsMemory` requires
       left_over : (engine_new : Engine) → 0 < length held.text.items → prints_some print ≡ true
           → (k : ℕ) × Wrote (page rules width print (take k (front_paragraphs rules (s.is_at.decoded ++ take held.waiting held.chunk.items)))) writer_old writer
           × (prints_some print ≡ false
@@ -397,7 +398,7 @@ module _ (rules : Rules) (width : ℕ) (print : Print) (reader_old writer_old : 
     parts : bytes_read ≡ take held.waiting held.chunk.items ++ take n read.read.buffer
     parts = ap (λ (h : Held). take (h.waiting + n) held_read.chunk.items) read.same ∙ read.read.chunk
 
-    -- if no bytes were read because the source has ended, the run ends with the result of its last call
+    -- if no bytes were read because the source has ended, the run ends with the result of `finish`
     pub read_nothing : n ≡ 0 → (writer_new : Device) (engine_new : Engine) (result : Result (Unit {0}) RunFault) → Finishes rules width print held_read writer writer_new result
         → OnOk result (Prints (length held_read.text.items) print engine engine_new) → PrintsAtMost (length held_read.text.items) print engine engine_new
         → (0 < held_read.waiting → engine_new ≡ engine)
@@ -491,7 +492,7 @@ module _ (rules : Rules) (width : ℕ) (print : Print) (reader_old writer_old : 
     abbrev left : List ℕ
     left = drop (utf8_valid_len bytes_read) bytes_read
 
-    -- the bytes after the valid UTF-8 prefix do not start with a character
+    -- the bytes after the longest valid UTF-8 prefix do not begin with a complete character
     left_none : utf8_valid_len left ≡ 0
     left_none =
         let v = utf8_valid_len bytes_read in

@@ -50,7 +50,7 @@ pub append_end : {A : Type 0} (xs ys : List A) → xs ++ ys ≡ [] → ys ≡ []
 append_end [] ys is = is
 append_end (x ∷ xs) ys is = absurd cc
 
--- a text without a paragraph boundary is empty, or has all its characters in one paragraph
+-- a text without a paragraph boundary has the same number of characters as its paragraphs together
 pub last_len : (text : List ℕ) → length (concat (if length text == 0 then [] else text ∷ [])) ≡ length text
 last_len [] = refl
 last_len (a ∷ text) =

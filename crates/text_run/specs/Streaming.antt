@@ -37,7 +37,7 @@ module _ (is_cut : ℕ → ℕ → Bool) where
     pub splits : (more : List ℕ) → paragraphs is_cut (text ++ more) ≡ first more ∷ others more
     pub long : (more : List ℕ) → is_within (first more) ≡ false
 
-  -- whether a text has no paragraph boundary and is within the limit of a paragraph
+  -- whether a text has no paragraph boundary and is within the length limit of a paragraph
   pub record IsOpen (text : List ℕ) : Type 0 where
     pub uncut : SplitsAt is_cut text None
     pub short : length text ≤ PARAGRAPH_LIMIT
@@ -54,8 +54,8 @@ module _ (is_cut : ℕ → ℕ → Bool) where
   IsFaultAhead text bad place (f.NotUtf8 n) = IsOpen text × (bad ≡ true) × (n ≡ place)
   IsFaultAhead text bad place fault = ⊥
 
--- The lines of the first paragraphs of a text are appended to a page, and their characters are counted once. The rest
--- has no paragraph boundary.
+-- The lines of the first paragraphs of a text were appended to a page, and the characters of these paragraphs
+-- were counted once. The rest has no paragraph boundary.
 pub record Pushed (rules : Rules) (width : ℕ) (print : Print) (text rest before after : List ℕ) (engine_old engine_new : Engine) : Type 0 where
   pub pars : List (List ℕ)
   pub front : IsFront (cut_by rules) pars text rest
@@ -153,7 +153,7 @@ pub record IsAt (rules : Rules) (width : ℕ) (print : Print) (reader_old reader
   pub lines_are : lines ≡ page rules width print gathered
   pub ahead : reader_new.passed ≤ reader_old.passed + length (encode_utf8_all (concat sent)) + read_ahead
 
--- the state between two reads, after all lines are written and counted
+-- the state of a run between two reads, when no gathered lines are left to write
 pub record Stands (rules : Rules) (width : ℕ) (print : Print) (reader_old writer_old : Device) (engine_old : Engine) (reader_new writer_new : Device) (engine_new : Engine) (held : Held) : Type 0 where
   pub is_at : IsAt rules width print reader_old reader_new writer_old writer_new (take held.waiting held.chunk.items) held.text.items []
   pub all_sent : is_at.gathered ≡ []
@@ -167,7 +167,7 @@ pub record Stands (rules : Rules) (width : ℕ) (print : Print) (reader_old writ
   pub fits : Prints 0 print engine_old engine_old
   pub counts : Prints (length (concat is_at.sent)) print engine_old engine_new
 
--- how a run ends, for each result
+-- what holds when a run ends with a result
 pub record Ends (rules : Rules) (width : ℕ) (print : Print) (reader_old writer_old : Device) (engine_old : Engine)
     (reader_new writer_new : Device) (engine_new : Engine) (result : Result (Unit {0}) RunFault) : Type 0 where
   pub run : IsTextRun rules width print reader_old reader_new writer_old writer_new engine_old engine_new result

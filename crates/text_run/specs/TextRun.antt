@@ -24,8 +24,8 @@ pub data Ending : Type 0 where
   AtEnd : Ending
   AtFailure : Ending
 
--- The fault of an input: it is not UTF-8, or a read failed. At the end of the input, an incomplete UTF-8
--- sequence is reported as `NotUtf8` too.
+-- The fault of an input: the input is not UTF-8, or a read failed. At the end of the input, an incomplete
+-- UTF-8 sequence is reported as `NotUtf8` too.
 abbrev pub input_fault : Ending → List ℕ → Option RunFault
 input_fault AtEnd bytes =
     if utf8_valid_len bytes == length bytes then None else Some (fault.NotUtf8 (utf8_valid_len bytes))
@@ -48,7 +48,7 @@ written_of pars is_whole =
 abbrev pub ending_of : List (List ℕ) → Option RunFault → Option RunFault
 ending_of pars wrong = if are_within pars then wrong else Some fault.ParagraphTooLong
 
--- the paragraphs of the longest prefix of an input that is valid UTF-8
+-- the paragraphs of the longest valid UTF-8 prefix of an input
 abbrev pub front_paragraphs : Rules → List ℕ → List (List ℕ)
 front_paragraphs rules bytes = paragraphs (cut_by rules) (front_of bytes)
 

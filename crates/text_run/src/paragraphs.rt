@@ -31,8 +31,8 @@ enum Ahead {
     Open,
 }
 
-/// Returns the fault in the first paragraph of `text`, if it is already known from `more`, the characters
-/// that follow. Allocates nothing.
+/// Returns the fault in the first paragraph of `text`, if `more`, the characters that follow, already shows
+/// the fault. Allocates nothing.
 ///
 /// `text` must have no paragraph boundary and must not be too long. `more` must not have more characters than
 /// a paragraph may have. `is_bad` says whether the bytes after `more`, at `place` in the input, are invalid
@@ -231,7 +231,7 @@ fn push_first(
 }
 
 /// Adds the lines of all paragraphs of a text to a page. No paragraph may be too long. Uses `held` as a
-/// buffer, and allocates only if it or the page or the engine's buffers have to grow.
+/// buffer. Allocates only if `held`, the page or a buffer of the engine has to grow.
 pub fn push_page(
     alloc: Global,
     lines: &mut Page,

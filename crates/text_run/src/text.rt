@@ -201,7 +201,8 @@ impl Held {
     }
 }
 
-// Ends a text that has no more bytes.
+// Ends a run whose source has no more bytes. Writes the lines of the last paragraph, unless the text ends
+// inside a character.
 fn finish<W: Sink>(
     alloc: Global,
     writer: &mut W,
@@ -257,8 +258,7 @@ fn step<R: Source, W: Sink>(
         (R.state reader.new) (W.state writer.new) engine.new held.new result }
     ensures reads { TellsReads result (R.state reader.old) (R.state reader.new) }
 
-    // If an allocation fails, nothing is written. So this error is not returned after the lines before a
-    // fault have been written.
+    // If an allocation fails, this step writes nothing.
     ensures memory { IsErrOf result RunFault.Memory → W.state writer.new ≡ W.state writer.old }
 
     // If no bytes were read, an allocation can fail only for the last paragraph. In that case, something is
@@ -303,7 +303,7 @@ fn step<R: Source, W: Sink>(
     }
 }
 
-/// Writes the lines of a text's paragraphs, at a width in columns, which must not be 0.
+/// Reads a text and writes the lines of its paragraphs. `width` is in columns and must not be 0.
 ///
 /// A paragraph is written as soon as its end is known, before more is read. Only the last paragraph and one
 /// chunk of the input are kept in memory. Never fails with `BadLine` or `TextTooLong`.

@@ -29,7 +29,7 @@ use Rattle.session.specs.declared.places.Place.{Place}
 pub same_some : {A : Type 0} (x y : A) → Some x ≡ Some y → x ≡ y
 same_some {A = A} x y is = ap (λ (o : Option A). unwrap_or o x) is
 
--- a property that holds for each line of each layout holds for each line of a text
+-- if all lines in every layout of a paragraph have a property, all lines of a text have the property
 in_all : (P : Visual → Type 0) (rules : Rules) (width : ℕ) → ((own : Rules) (text : List ℕ) → All P (visuals (layout_of own width text)))
     → (advances : Option (List ℕ)) (pars : List (List ℕ)) → All P (flat_map visuals (layouts_from rules width advances pars))
 in_all P rules width each advances [] = All-nil P
@@ -121,7 +121,7 @@ module _ (line : Visual) where
         | false ↦ refl
       ]
 
--- a property that holds for each line of each layout holds for a line of a text
+-- if all lines in every layout of a paragraph have a property, line n of a laid-out text has the property
 pub in_kept : (rules : Rules) (width : ℕ) (kept : List Layout) → kept ≡ layouts_of rules width (text_of kept)
     → (P : Visual → Type 0) → ((own : Rules) (text : List ℕ) → All P (visuals (layout_of own width text)))
     → (n : ℕ) (line : Visual) → Some line ≡ slice_get (lines_in kept) n → P line
@@ -130,7 +130,7 @@ in_kept rules width kept laid P each n line is =
     (subst (λ (k : List Layout). All P (lines_in k)) (sym laid) (in_all P (with_advances rules None) width each rules.advances (paragraphs (cut_by rules) (text_of kept)))) is
 
 module _ (kept : List Layout) where
-  -- the line of a caret, and the bound on its column
+  -- a caret's line, and an upper bound on the caret's column
   pub record Fits (caret : Caret) : Type 0 where
     pub line : Visual
     pub found : Some line ≡ slice_get (lines_in kept) caret.line
@@ -161,7 +161,7 @@ module _ (kept : List Layout) where
   before-by rules pos caret true within is = absurd (both_ways true within refl)
   before-by rules pos caret false within is = inside Before pos caret is
 
-  -- the caret at an edge of a character fits
+  -- `Fits` holds for the caret at an edge of a character
   pub edge-fits : (rules : Rules) (side : Side) (pos : ℕ) (caret : Caret) → (side ≡ Before → pos < length (text_of kept))
       → Some caret ≡ edge_caret_by rules kept side pos → Fits caret
   edge-fits rules Before pos caret within is =
@@ -173,7 +173,7 @@ abbrev is_before : Side → Bool
 is_before Before = true
 is_before After = false
 
--- the edge of a query is before a position only if the query says so
+-- if the side of a query's edge is `Before`, the query's `is_after` is false
 pub side-before : (is_after : Bool) → (if is_after then After else Before) ≡ Before → is_after ≡ false
 side-before true is = absurd (both_ways false refl (ap is_before is))
 side-before false is = refl

@@ -1,4 +1,4 @@
--- Items of a reply that are written one after another, and their number.
+-- Writing the items of a reply one after another, and upper bounds on the number of items.
 use Rattle.std.proofs.Common.{◌≡◌, ℕ, ◌-◌, ◌<◌, ◌≤◌, Bool, List, [], ◌∷◌, ◌++◌, length, filter, Result, IfErr, sym, subst, ap, ◌∙◌, arith, append-nil}
 use Rattle.std.specs.List.{flat_map, range_with_len}
 use Rattle.std.proofs.lemmas.Grind.{flat_map-append}
@@ -98,7 +98,7 @@ runs_few levels =
       length-order levels,
     )
 
--- a property that holds for all items holds for the remaining ones
+-- a property that holds for all items of a list holds for all items of a suffix
 all-after : {A : Type 0} (P : A → Type 0) (done rest : List A) → All P (done ++ rest) → All P rest
 all-after P [] rest all = all
 all-after P (x ∷ done) rest all = all-after P done rest (All-tail P x (done ++ rest) all)

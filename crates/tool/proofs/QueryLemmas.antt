@@ -61,7 +61,7 @@ part_within kept pos count len is = go (nat_lt (length (text_of kept)) (pos + co
     go true none = cc
     go false some = ap (λ o. told (unwrap_or o 0 ∷ []) ++ utf8_part kept pos count ++ codes "\n") (sym some)
 
--- if printing fails with `Write`, the sink failed
+-- if printing fails with `Write`, `stopped` holds for the number of bytes written
 pub of_sink : (size first count : ℕ) (untouched : Type 0) (stopped : ℕ → Type 0) (fault : RangeFault) (sink : WriteFault) → fault ≡ Write sink
     → WritesNot size first count untouched stopped fault → stopped sink.written
 of_sink size first count untouched stopped fault sink is h = (subst (WritesNot size first count untouched stopped) is h).1

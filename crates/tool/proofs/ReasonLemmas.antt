@@ -2,11 +2,11 @@
 use Rattle.std.proofs.Common.{◌≡◌, ℕ, List, ◌++◌, ap, ◌∙◌}
 use Rattle.std.proofs.lemmas.List.{append_assoc}
 
--- what was appended in two steps was appended
+-- appending `xs` and then `ys` appends `xs ++ ys`
 pushed : (old xs ys mid new : List ℕ) → mid ≡ old ++ xs → new ≡ mid ++ ys → new ≡ old ++ (xs ++ ys)
 pushed old xs ys mid new first second = second ∙ ap (λ (zs : List ℕ). zs ++ ys) first ∙ append_assoc old xs ys
 
--- the same in three steps, and in nine
+-- the same for three lists and for nine lists
 pub pushed_3 : (old a b c p q new : List ℕ) → p ≡ old ++ a → q ≡ p ++ b → new ≡ q ++ c → new ≡ old ++ (a ++ b ++ c)
 pushed_3 old a b c p q new p1 p2 p3 = pushed old (a ++ b) c q new (pushed old a b p q p1 p2) p3
 

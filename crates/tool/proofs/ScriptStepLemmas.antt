@@ -367,7 +367,7 @@ module _ (rules : Rules) (options : ScriptOptions) (start : SessionState)
   pub written_fits : reading.written ≤ writer.passed
   written_fits = omega (arith, at.written, at.wrote.0.passed)
 
--- the run ends after its last line was executed or failed
+-- at the end of a script whose last line has no line end, the run ends with the result of that line
 pub ends_finish : (rules : Rules) (options : ScriptOptions) (start : SessionState)
     (reader_old reader writer_old writer : Device) (now state : SessionState) (reading new : Reading)
     (writer_new : Device) → IsAt rules options start reader_old reader writer_old writer now reading []
@@ -422,7 +422,7 @@ module _ (rules held_rules : Rules) (options : ScriptOptions) (start : SessionSt
         fails = failed;
       }
 
--- the fault with which a run ended; `Read` if it did not fail
+-- the fault in a result, or `Read` if the result is `Ok`
 abbrev fault_in : {T : Type 0} → Result T RunFault → RunFault
 fault_in (Ok done) = f.Read
 fault_in (Err fault) = fault

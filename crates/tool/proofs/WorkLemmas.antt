@@ -95,7 +95,7 @@ edit_works edit old new (Err fault) whole m r =
     (subst (λ ps. IsCountedFor fault (LaysOutAtMost (fresh ps edit)) old.engine new.engine) (pars_kept old whole) r.counts)
     (λ e counts. laid_out reason n old.engine new.engine e counts)
 
--- a count that rises by exactly n rises by at most n
+-- a counter that is increased by n, saturating at 2^64−1, rises by at most n
 exact_rise : (n most old new : ℕ) → new ≡ counted old n → RisesBy most old new → RisesBy n old new
 exact_rise n most old new exact r = record { least = r.least; most = omega (arith, exact) }
 

@@ -66,7 +66,7 @@ told_count count = codes "= " ++ decimal count
 abbrev pub told_each : {A : Type 0} → (A → List ℕ) → List A → List ℕ
 told_each numbers items = told_count (length items) ++ flat_map (λ item. listed (numbers item)) items ++ codes "\n"
 
--- a side as a word, and an edge: its position and its side, with a space before each
+-- a side as a word; an edge as its position and its side, with a space before each
 abbrev pub side_text : Side → List ℕ
 side_text Before = codes "before"
 side_text After = codes "after"
@@ -257,8 +257,9 @@ query_text rules print width kept (ask.Runs n) = runs_text kept n
 query_text rules print width kept (ask.Clusters n) = clusters_text kept n
 query_text rules print width kept (ask.Why pos) = why_text kept rules pos
 
--- Whether a query may allocate. `cluster`, `word` and `why` may allocate if the character exists, `edge` if the edge belongs
--- to a character, `step` if the text has the edge and is not empty, and `at` and `clusters` if the line exists.
+-- Whether a query may allocate. `cluster`, `word` and `why` may allocate if the character exists, and `edge`
+-- if the edge belongs to a character. `step` may allocate if the text has the edge and is not empty. `at` and
+-- `clusters` may allocate if the line exists.
 abbrev pub AsksMemory : List Layout → Query → Type 0
 AsksMemory kept (ask.Cluster pos) = pos < length (text_of kept)
 AsksMemory kept (ask.Word pos) = pos < length (text_of kept)

@@ -80,9 +80,9 @@ pub record ExecutesLine (rules : Rules) (options : ScriptOptions) (line : List �
   pub lines : new.lines ≡ old.lines + 1
   pub empty : new.line.items ≡ []
 
--- An allocation failed for a line that is valid UTF-8. There are three cases: fewer characters were stored than the
--- line has; fewer were stored than the text of its insert represents; or the allocation failed for the line's command,
--- which is not refused.
+-- An allocation failed for a line that is valid UTF-8. There are three cases: not all characters of the line
+-- were stored; not all characters that the line inserts were stored; or the allocation failed for the line's
+-- command, which is not refused.
 abbrev pub WantsMemory : Rules → Bool → List ℕ → Reading → Held → Type 0
 WantsMemory rules queries line reading held =
     (length reading.text.items < length (chars line))

@@ -102,7 +102,7 @@ abbrev pub kept_text : ℕ → LevelReason → SequenceReason → List ℕ
 kept_text start reason found =
     types_text reason found ++ positions_text start reason found ++ explicit_text reason ++ resolved_text found
 
--- ---- the level of a character that X9 removes, which has no types after its class
+-- ---- the level of a character that X9 removes; the type after each rule is `none`
 
 abbrev pub removed_text : ℕ → LevelReason → List ℕ
 removed_text start reason =

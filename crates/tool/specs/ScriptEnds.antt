@@ -32,9 +32,9 @@ WantsMore done old new (Some fault.Memory) =
     ((length done ≡ 0) × (new.passed ≡ old.passed)) ⊎ (old.passed + length (with_ends done) < new.passed)
 WantsMore done old new stop = ⊤
 
--- A run ended after the first k lines. Only these lines were executed, and also the next one if a write failed within
--- its reply. At most `line_read_ahead` bytes after the k lines were read. The session did at most the work that these
--- lines and the next one require.
+-- A run ended after the first k lines. Only these lines were executed; if a write failed within the reply to
+-- the next line, that line was executed too. At most `line_read_ahead` bytes after the k lines were read. The
+-- session did at most the work that the first k + 1 lines require.
 pub record EndsAfter (rules : Rules) (options : ScriptOptions) (old new : SessionState) (lines : List (List ℕ))
     (wrong : Option RunFault) (k : ℕ) (reader_old reader_new writer_old writer_new : Device)
     (stop : Option RunFault) : Type 0 where

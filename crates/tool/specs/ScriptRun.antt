@@ -105,7 +105,7 @@ is_good queries line = is_some (command_of_line queries line)
 abbrev pub good_lines : Bool → List (List ℕ) → List (List ℕ)
 good_lines queries lines = take_while (is_good queries) lines
 
--- the fault that ends the run
+-- the fault with which a run ends if all lines are valid
 abbrev pub input_fault : Ending → Option RunFault
 input_fault AtEnd = None
 input_fault AtFailure = Some fault.Read

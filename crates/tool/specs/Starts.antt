@@ -1,4 +1,4 @@
--- The text with which a script starts.
+-- Opening a session on the text with which a script starts.
 use Rattle.std.specs.Prelude.{◌≡◌, ℕ, ◌<◌, List, length, Some, None}
 use Rattle.std.specs.Str.{chars}
 use Rattle.std.specs.Str.Lossy.{utf8_valid_len}

@@ -43,7 +43,7 @@ module _ (rules : Rules) where
   work_of_lines queries work held (line ∷ lines) =
       work_of_line work held (command_of_line queries line) + work_of_lines queries work (after_line rules held (command_of_line queries line)) lines
 
-  -- no counter of an engine rose by more than this work
+  -- each work counter of an engine rose by at most its bound
   pub record Works (most : (Held → Command → ℕ) → ℕ) (old new : Engine) : Type 0 where
     pub analysed : RisesBy (most analysed_by) (analysed_of old) (analysed_of new)
     pub filled : RisesBy (most filled_by) (filled_of old) (filled_of new)

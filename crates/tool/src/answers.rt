@@ -63,7 +63,7 @@ pub fn listed(numbers: &[usize]) -> Answer
     answer
 }
 
-/// Returns the start of a reply that lists items: `=` and their number.
+/// Returns the start of a reply that lists items: `=` and the number of items.
 pub fn told_count(count: usize) -> Answer
     ensures { result.items ≡ told_count count }
 {

@@ -1,4 +1,4 @@
-//! Replies that list the parts of a line: how many there are, and the numbers that describe each.
+//! Replies that list parts of a line: the number of parts, followed by the numbers that describe each part.
 ghost use Rattle.std.specs.Prelude.{◌≡◌, ◌^◌, ◌∷◌, [], ◌<◌, ◌≤◌, length, IfOk, IfErr};
 ghost use Rattle.std.specs.List.{flat_map};
 ghost use Rattle.lines.specs.Spans.{spans_of};

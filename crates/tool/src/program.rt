@@ -1,4 +1,4 @@
-//! Why the program ends early: its message and its exit status.
+//! Why the program ends early: the message and the exit status.
 ghost use Rattle.std.specs.Prelude.{◌≡◌};
 
 use command_line::LineFault;

@@ -15,7 +15,7 @@ use session::CharReasons;
 use std::alloc::{AllocError, Global};
 use ucd::{BidiClass, LineClass};
 
-// The value of what does not exist.
+// The value that is printed for a missing class, case, rule or position.
 const NONE: &str = "none";
 
 fn bidi_text(class: Option<BidiClass>) -> &'static str

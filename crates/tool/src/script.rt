@@ -379,7 +379,7 @@ fn feed<W: Sink, S: ParagraphStore<Kept>>(
         → Feeds (rules_of session.old.engine) options.now start reader_start writer_start reader_now
         (W.state writer.new) session.new reading.new result }
 
-    // If an allocation fails, it fails for one line, and all lines before it have been executed.
+    // If an allocation fails while a line is read or executed, all lines before that line have been executed.
     ensures wants { (start : SessionState) (reader_start writer_start reader_now : Device)
         → IsAt (rules_of session.old.engine) options.now start reader_start reader_now
         writer_start (W.state writer.old) session.old reading.old chunk.now
@@ -448,8 +448,8 @@ fn step<R: Source, W: Sink, S: ParagraphStore<Kept>>(
         (R.state reader.new) (W.state writer.new) session.new reading.new result }
     ensures reads { TellsReads result (R.state reader.old) (R.state reader.new) }
 
-    // If an allocation fails, it fails for one line, and all lines before it have been executed. If no bytes
-    // were read, it fails for the line at the end, which is not empty.
+    // If an allocation fails while a line is read or executed, all lines before that line have been executed.
+    // If no bytes were read, that line is the last one, and it is not empty.
     ensures wants { (start : SessionState) (reader_start writer_start : Device)
         → IsAt (rules_of session.old.engine) options.now start reader_start (R.state reader.old)
         writer_start (W.state writer.old) session.old reading.old []

@@ -1,4 +1,4 @@
-//! Tests of the public calls of `tool`, by their paths and with their types, and of all error messages.
+//! Tests of the paths, types and results of the public calls of `tool`, and of all error messages.
 #![tactic(auto)]
 
 #[cfg(test)]

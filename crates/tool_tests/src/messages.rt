@@ -22,7 +22,7 @@ fn check<T: Display>(rt: &impl Abort, alloc: Global, rows: &[(T, &str)]) {
     }
 }
 
-// A fault of a table file: its number, its line, the cause and the message.
+// The number of a table file, the line and the cause of a fault in the file, and the message.
 static TABLE_FAULTS: [(usize, usize, Cause, &str); 11] = [
     (1, 1, Cause::NotAscii, "DerivedBidiClass.txt:1: cause 1"),
     (2, 9, Cause::CodePoint, "BidiBrackets.txt:9: cause 2"),
@@ -130,7 +130,7 @@ fn folder_faults_have_their_texts(rt: HostRuntime) {
     check(&rt, rt.alloc(), &FOLDER_FAULTS);
 }
 
-// A number of more than 32 bits.
+// A number that needs more than 32 bits.
 const BYTES: u64 = 4_294_967_297;
 
 const WRITE: WriteFault = WriteFault { written: BYTES };

@@ -156,7 +156,7 @@ fn files_are_the_other_arguments(rt: HostRuntime) {
     );
 }
 
-// Returns why arguments are refused.
+// Returns why arguments are refused, or `None` if they are accepted.
 fn fault_of(alloc: Global, arguments: &[&str]) -> Option<tool::LineFault> {
     match tool::settings(alloc, arguments) {
         Ok(_) => None,

@@ -16,7 +16,7 @@ use Rattle.ucd.specs.declared.line_class.LineClass.TheVariants.{XX}
 use Rattle.ucd.specs.declared.version.Version.{Version}
 use Rattle.ucd.specs.declared.version.Version.TheVariants.{V15_0, V17_0}
 
--- what holds for every value that the form can parse holds for the values in a file
+-- if `P` holds for every value that the form can parse, `P` holds for every value in a file
 module _ {V : Type 0} (P : V → Type 0) where
   abbrev Each : List V → Type 0
   Each [] = Unit {0}
@@ -84,7 +84,7 @@ module _ {V : Type 0} (P : V → Type 0) where
       file_gives (line ∷ lines) c =
           either_of (given form line c) (value_in form lines c) (given_of (reading_of form line) c (line_gives line)) (file_gives lines c)
 
--- the version has the class
+-- the class exists in the version
 abbrev Fits : Version → LineClass → Type 0
 Fits version class = line_class_in version class ≡ class
 

@@ -28,12 +28,12 @@ pub record HoldsLines {V : Type 0} (form : Form V) (lines : List (List ℕ)) (k 
   pub good : (j : ℕ) (why : Cause) → j < k → ¬ (HasFault form lines j why)
   pub values : (c : ℕ) → IsScalar c → value_at es c ≡ value_in form (take k lines) c
 
--- the lines of the remaining text are its first line, and the lines left after it
+-- the lines of the remaining text are its first line, followed by the lines that are left after the first one
 pub first_left : (text front : List ℕ) (rest : Option (List ℕ)) → lines_of text ≡ parts_of 10 front rest → lines_of text ≡ front ∷ lines_left rest
 first_left text front None is = is
 first_left text front (Some rest) is = is
 
--- if `drop k xs` begins with `y`, then `y` is at index k, and `ys` is what follows it
+-- if `drop k xs` is `y ∷ ys`, then `y` is at index k, and `drop (k + 1) xs` is `ys`
 at_drop : {X : Type 0} (xs : List X) (k : ℕ) (d y : X) (ys : List X) → drop k xs ≡ y ∷ ys → (k < length xs) × (get_or xs k d ≡ y) × (drop (k + 1) xs ≡ ys)
 at_drop [] zero d y ys is = cc
 at_drop [] (suc k) d y ys is = cc

@@ -5,7 +5,7 @@ use Rattle.std.specs.Char.{digit_value, is_ascii_hexdigit}
 use Rattle.std.proofs.lemmas.Grind.{common_steps}
 use Rattle.ucd.specs.Grammar.{hex_value}
 
--- the first k digits have this value
+-- the first k bytes are hexadecimal digits, and `number` is their value
 pub record HasValue (xs : List ℕ) (k number : ℕ) : Type 0 where
   pub so_far : number ≡ hex_value (take k xs)
   pub digits : list_all is_ascii_hexdigit (take k xs) ≡ true

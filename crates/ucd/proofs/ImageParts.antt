@@ -22,7 +22,7 @@ module _ (bytes : List ℕ) (at : ℕ) (part : List ℕ) (from count : ℕ) (sho
   unfolding u64_at
   u64_shown i j least most is = rw (u32_shown i j least (omega arith) is, u32_shown (i + 4) (j + 4) (omega arith) (omega arith) (omega arith)) refl
 
-  -- if bytes equal those of a part, the same holds for fewer bytes
+  -- `Shows` for `count` bytes implies `Shows` for any smaller number of bytes
   pub shows_less : (less : ℕ) → less ≤ count → Shows bytes at part from less
   shows_less less le = record { each = λ i j least most is. shows.each i j least (omega arith) is }
 
@@ -153,7 +153,7 @@ header_is b0 b1 b2 b3 b4 b5 a b c d e len one two three four five =
       e_is = number_here b4 b5 e 28 five l4;
     }
 
--- the k 16-bit numbers of `old` are also in `new`, followed by `number`
+-- `new` consists of the k 16-bit numbers of `old`, followed by `number`
 pub record Has16 (old new : List ℕ) (number k : ℕ) : Type 0 where
   pub len : length new ≡ 2 * (k + 1)
   pub before : (j : ℕ) → j < k → u16_at new (2 * j) ≡ u16_at old (2 * j)

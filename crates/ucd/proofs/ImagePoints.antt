@@ -12,7 +12,8 @@ module _ {V : Type 0} (decode : ℕ → Option V) (bytes : List ℕ) (start : �
   unfolding found
   found_more k c = rw add-one refl
 
-  -- `IsPoint` holds for pair k if its code point is above those of the pairs before it
+  -- `IsPoint` holds for pair k if its number encodes a value and its code point is in range and above all
+  -- earlier ones
   pub point_more : (k next : ℕ) (v : V) → ((j : ℕ) → j < k → point_at decode bytes start j < next) → next ≤ point_at decode bytes start k
       → point_at decode bytes start k < 1114112 → point_value decode bytes start k ≡ Some v → IsPoint decode bytes start k
   point_more k next v below least within is = record {

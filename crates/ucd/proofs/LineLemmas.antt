@@ -19,13 +19,13 @@ use Rattle.ucd.specs.declared.tables.Tables.{Tables}
 use Rattle.ucd.specs.declared.version.Version.{Version}
 use Rattle.ucd.proofs.PagedLemmas.{value_singles}
 
--- functions that agree below n have the same entries
+-- if two functions agree below n, `singles` returns the same entries for both
 singles_same : {V : Type 0} (f g : ℕ → Option V) (n : ℕ) → ((c : ℕ) → c < n → f c ≡ g c) → singles f n ≡ singles g n
 unfolding singles
 singles_same f g zero same = refl
 singles_same f g (suc n) same = rw (singles_same f g n (λ c lt. same c (omega arith)), same n (omega arith)) refl
 
--- the class of a code point, which is S if it is a rare separator of class B
+-- the class of a code point: S for a rare separator of class B, and otherwise unchanged
 abbrev class_in : TableContents → ℕ → BidiClass
 class_in t c = class_for_lines c (unwrap_or (value_at t.bidi_classes c) (default_class t.version c))
 
@@ -118,7 +118,7 @@ pub unusual_if : (separates : Bool) (t : Tables) (c : ℕ) → c < 1114112 → m
 unusual_if false t c lt isnt other is = other is
 unusual_if true t c lt isnt other is = other (class_changed t c lt ∙ stays_b c (class_of t c) isnt ∙ is)
 
--- an image can contain the changed properties
+-- if an image can contain the original properties, an image can contain the changed properties
 pub entry_if : (separates : Bool) (version : Version) (c : ℕ) (a : PropertyAnswers) → IsEntryOf version a → IsEntryOf version (answers_if separates c a)
 entry_if false version c a is = is
 entry_if true version c a is = record { apart = is.apart; number = is.number }

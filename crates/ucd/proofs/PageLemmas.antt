@@ -9,7 +9,7 @@ use Rattle.ucd.specs.declared.version.Version.TheVariants.{V15_0, V17_0}
 use Rattle.ucd.specs.DistinctPages.{AreEntriesOf, IsEntryOf, AreDistinct, IsPage, HoldsPages}
 use Rattle.ucd.specs.Pages.{answers_at, HasPage}
 
--- if the last page equals `page`, the entries have `page` under the number of the last page
+-- if the last page equals `page`, `HasPage` holds with the number of the last page
 pub has_last : (entries page : List PropertyAnswers) (end : ℕ) → end ≡ length entries → length entries % 256 ≡ 0
     → 256 ≤ end → drop (end - 256) entries ≡ page → HasPage entries entries page (end / 256 - 1)
 has_last entries page end is whole some same = record {
@@ -76,7 +76,7 @@ pub pages_more : (answers : ℕ → PropertyAnswers) (old new page : List Proper
 pages_more answers old new page index place number before has is =
     block_more answers old new page index place number before has.whole has.longer has.room has.within has.others (λ k lt. has.here k lt ∙ is k lt)
 
--- it also holds after a block with the same properties as the block before
+-- `HoldsPages` still holds after a block with the same properties as the previous one has been added
 pub pages_again : (answers : ℕ → PropertyAnswers) (entries : List PropertyAnswers) (index : List ℕ) (place number : ℕ) → HoldsPages answers index entries place → 0 < place
     → number ≡ get_or index (place - 1) 0 → ((k : ℕ) → k < 256 → answers (place * 256 - 256 + k) ≡ answers (place * 256 + k)) → HoldsPages answers (index ++ number ∷ []) entries (place + 1)
 pages_again answers entries index place number before some is same =
@@ -102,7 +102,7 @@ filled_more answers old new properties start point stop from to before run set i
       set i ∙ cond-true (nat_le (point - start) i && nat_lt i (stop - start)) properties (get_or old i unnamed) inside ∙ sym (run (start + i) (omega arith) (omega arith))
 ]
 
--- a block with the page of the block before has the same properties
+-- a block with the same page number as the previous block has the same properties as that block
 pub same_block : (index : List ℕ) (entries : List PropertyAnswers) (place c : ℕ) → 0 < place → get_or index place 0 ≡ get_or index (place - 1) 0 → c / 256 ≡ place → answers_at index entries c ≡ answers_at index entries (c - 256)
 same_block index entries place c some same block =
     let before : (c - 256) / 256 ≡ place - 1 = omega arith in
@@ -144,7 +144,8 @@ valid_next version entries page old new i = elim (cases_lt i (length entries)) [
   | inr from ↦ rw (get_or-append_right entries page (length entries) i unnamed refl from) (new (i - length entries))
 ]
 
--- the properties of a character that no line lists are valid, so a part of valid entries is valid even past the end
+-- the default properties, for a character that no line lists, are valid, so reading past the end of a list of
+-- valid entries also yields a valid entry
 unnamed_valid : (version : Version) → IsEntryOf version unnamed
 unnamed_valid V15_0 = record { apart = refl; number = omega arith }
 unnamed_valid V17_0 = record { apart = refl; number = omega arith }

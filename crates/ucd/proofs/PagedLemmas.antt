@@ -21,8 +21,8 @@ use Rattle.ucd.specs.declared.grammar.Entry.{Entry}
 use Rattle.ucd.specs.declared.tables.Tables.{Tables}
 
 module _ {V : Type 0} where
-  -- In a concatenation, the value of a code point comes from the first list that has one. In `single c`, only
-  -- `c` can have a value.
+  -- In a concatenation, a code point has its value in the first list, or else its value in the second list.
+  -- In `single c`, only `c` can have a value.
   value_append_some : (xs ys : List (Entry V)) (c : ℕ) (v : V) → value_at xs c ≡ Some v → value_at (xs ++ ys) c ≡ Some v
   value_append_some [] ys c v is = cc
   value_append_some (x ∷ xs) ys c v is = grind (arith, nat_tests, value_append_some xs ys c v)

@@ -1,4 +1,4 @@
--- The parts of a field or a line whose last part contains another separator.
+-- Splitting fields and lines of which the last part may contain another separator.
 use Rattle.std.proofs.Common.{◌≡◌, ℕ, ◌<◌, Bool, true, false, List, [], ◌∷◌, length, get_or, map, Some, None, Option, is_some, option_map, Err, refl, sym, inl, inr, arith}
 use Rattle.std.specs.List.{slice_split, position_or_len, after_first, list_all}
 use Rattle.std.specs.Char.{is_ascii_hexdigit}
@@ -29,7 +29,7 @@ no_code_point bytes lt =
     let bad : list_all is_ascii_hexdigit bytes ≡ false = list_all_at is_ascii_hexdigit bytes _ 0 lt (rw dot refl) in
     grind (arith, bad)
 
--- the end of a range is a code point only if it contains no dot
+-- the end `y` of a range can be parsed without splitting it at dots, because no code point contains a dot
 pub points_last : (x y : List ℕ) → both (code_point x) (code_point y) ≡ points_by true (x ∷ [] ∷ slice_split (is_mark 46) y)
 points_last x y = elim (cases_lt (position_or_len (is_mark 46) y) (length y)) [
   | inl lt ↦ let more = first_part (is_mark 46) (after_first (is_mark 46) y) in rw (slice_split_first (is_mark 46) y 0 lt, more.2, ← no_code_point y lt) (sym (both_None (code_point x)))

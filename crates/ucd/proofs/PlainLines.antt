@@ -11,7 +11,7 @@ use Rattle.ucd.specs.PlainLines.{IsWordByte, AreWord, AreSpaces, IsPlain}
 use Rattle.ucd.proofs.Cuts.{NoMarkBelow, front_at, front_all, parts_at, parts_one}
 use Rattle.ucd.proofs.Trims.{trimmed_at}
 
--- the first m items of the first h items of a list are its first m items
+-- if m ≤ h, taking h items of a list and then m of these is the same as taking m items
 take_take : (l : List ℕ) (m h : ℕ) → m ≤ h → h ≤ length l → take m (take h l) ≡ take m l
 take_take l m h le within =
     let long : length (take h l) ≡ h = length-take-le h l within in
@@ -20,7 +20,7 @@ take_take l m h le within =
     ext_get_or 0 _ _ (one ∙ sym other)
     (λ i lt. let im : i < m = omega (arith, one) in get_or-take m (take h l) i 0 im ∙ get_or-take h l i 0 (omega arith) ∙ sym (get_or-take m l i 0 im))
 
--- a byte of a part is a byte of the whole list
+-- the byte at an index of a part is the byte of the whole list at the sum of the index and the part's offset
 byte_at : (l : List ℕ) (a b m i : ℕ) → a + (b + i) < m → get_or (drop b (drop a (take m l))) i 0 ≡ get_or l (a + (b + i)) 0
 byte_at l a b m i lt = get_or-drop b (drop a (take m l)) i 0 ∙ get_or-drop a (take m l) (b + i) 0 ∙ get_or-take m l (a + (b + i)) 0 lt
 
@@ -30,7 +30,7 @@ same_byte l a n m i an lt =
     get_or-take (m - n) (drop (n - a) (drop a (take m l))) i 0 lt ∙ byte_at l a (n - a) m i (omega arith) ∙ ap (λ k. get_or l k 0) place
     ∙ sym (get_or-drop n l i 0) ∙ sym (get_or-take (m - n) (drop n l) i 0 lt)
 
--- the bytes n to m of a list are the same bytes of its part from a to m
+-- the bytes from n to m are the same, whether taken from the whole list or from its part from a to m
 part_of_part : (l : List ℕ) (a n m : ℕ) → a ≤ n → n ≤ m → m ≤ length l → take (m - n) (drop (n - a) (drop a (take m l))) ≡ take (m - n) (drop n l)
 part_of_part l a n m an nm within =
     let long : length (take m l) ≡ m = length-take-le m l within in
@@ -40,7 +40,7 @@ part_of_part l a n m an nm within =
     let other : length (take (m - n) (drop n l)) ≡ m - n = length-take-le (m - n) (drop n l) (omega (arith, whole)) in
     ext_get_or 0 _ _ (one ∙ sym other) (λ i lt. same_byte l a n m i an (omega (arith, one)))
 
--- a byte of a word is not white space
+-- a byte above 32 is not white space, and the byte 32 is
 not_space : (b : ℕ) → 32 < b → is_one_of spaces b ≡ false
 not_space b above = rw (ne_eqb 32 b (λ is. omega arith), ne_eqb 9 b (λ is. omega arith)) refl
 
@@ -58,7 +58,7 @@ is_blank b is = rw is refl
 module _ (line : List ℕ) (f s n m h : ℕ) (some : 0 < f) (fs : f ≤ s) (sn : s < n) (nm : n < m) (mh : m ≤ h) (hl : h ≤ length line)
     (field : AreWord line 0 f) (gap : AreSpaces line f s) (separator : get_or line s 0 ≡ 59) (next : AreSpaces line (s + 1) n)
     (name : AreWord line n m) (last : AreSpaces line m h) (comment : h < length line → get_or line h 0 ≡ 35) where
-  -- the bytes before the comment are ASCII, and no other comment begins there
+  -- the bytes before the comment are ASCII, and none of them is `#`
   before : (k : ℕ) → k < h → (get_or line k 0 < 128) × (get_or line k 0 ≡ 35 → ⊥)
   before k lt = elim (cases_lt k f) [
     | inl in_field ↦ let w = field k (omega arith) in_field in (w.ascii, w.no_comment)
@@ -102,7 +102,7 @@ module _ (line : List ℕ) (f s n m h : ℕ) (some : 0 < f) (fs : f ≤ s) (sn :
       ∙ list_all-from_AllPass is_ascii (take h line) (All-from_get_or (λ b. is_ascii b ≡ true) (take h line) 0
       (λ i lt. let within : i < h = omega (arith, long) in rw (get_or-take h line i 0 within) (lt-ltb _ _ (before i within).0)))
 
-  -- the content of the line is the line without its comment and white space
+  -- the content of the line (without comment and white space) is its first m bytes
   content : content_of line ≡ take m line
   content =
       let front = take h line in

@@ -98,7 +98,7 @@ module _ {V : Type 0} where
             after ∙ cond-false here (put e.value mid) mid is_not ∙ before ∙ sym (ap (λ v. put_by put v old) value)
       ])
 
-  -- the entry read at an index below the length is the entry at that index
+  -- at an index below the length, `slice_get` returns the same entry as `get_or`
   pub entry_read : (es : List (Entry V)) (i : ℕ) (e : Entry V) → i < length es → e ≡ get_or es i e → slice_get es i ≡ Some e
   entry_read [] i e lt is = absurd (omega arith)
   entry_read (x ∷ es) zero e lt is = ap Some (sym is)

@@ -48,7 +48,7 @@ module _ {V : Type 0} where
   covered_to : (e : Entry V) (c : ℕ) → covers e c ≡ true → c ≤ e.last
   covered_to e c covered = grind (arith, nat_tests)
 
-  -- entries in ascending order cover no code point before the first entry, and none twice
+  -- entries that ascend from `low` on cover no code point below `low`, and no code point twice
   none_before : (low : ℕ) (es : List (Entry V)) (c : ℕ) → AreRisingFrom low es → c < low → covering c es ≡ 0
   none_before low [] c rising lt = refl
   none_before low (e ∷ es) c (from, whole, within, rest) lt = covering_later c e es (before_first e c (omega arith)) ∙ none_before (e.last + 1) es c rest (omega arith)
@@ -99,7 +99,7 @@ module _ {V : Type 0} where
     | inr outside ↦ value_later c x es outside ∙ value_of_entry es c e k (omega arith) is covered (omega (arith, one, covering_later c x es outside))
   ]
 
-  -- a permutation has the same number of entries that cover a code point
+  -- the number of entries that cover a given code point is the same in a permutation of the entries
   same_covering : (es sorted : List (Entry V)) (c : ℕ) → IsPermutation es sorted → covering c sorted ≡ covering c es
   same_covering es sorted c moved =
       let count : Entry V → ℕ = λ e. one_if (covers e c) in
@@ -117,7 +117,7 @@ module _ {V : Type 0} where
           let there = Contains-permutation es sorted found.0 moved found.1 in
           value_of_entry sorted c found.0 there.0 there.1 there.2 found.2 one ∙ ap Some found.3 ∙ sym some
 
-  -- entries in ascending order are apart
+  -- `AreApart` holds for entries in ascending order
   first_from : (low : ℕ) (es : List (Entry V)) (i : ℕ) (e : Entry V) → AreRisingFrom low es → slice_get es i ≡ Some e → (low ≤ e.first) × (e.first ≤ e.last) × (e.last < 1114112)
   first_from low [] i e rising is = absurd (let no : ⊥ = cc in no)
   first_from low (x ∷ es) zero e (from, whole, within, rest) is = let same : x ≡ e = cc in rw (← same) (from, whole, within)
@@ -252,7 +252,8 @@ module _ {V : Type 0} where
   weaker low [] rising = rising
   weaker low (e ∷ es) (from, whole, within, rest) = (omega arith, whole, within, rest)
 
-  -- without the first entry, the entries are in ascending order, and the code points after it keep their values
+  -- if the first entry is removed, the others are still in ascending order, and code points above the first
+  -- entry keep their values
   pub rising_rest : (es : List (Entry V)) (e : Entry V) (rest : List (Entry V)) → es ≡ e ∷ rest → AreRisingFrom 0 es → AreRisingFrom 0 rest
   rising_rest es e rest is rising = let parts : AreRisingFrom 0 (e ∷ rest) = rw is at rising in weaker (e.last + 1) rest parts.3
 

@@ -28,7 +28,7 @@ use Rattle.ucd.specs.declared.version.Version.TheVariants.{V15_0, V17_0}
 use Rattle.ucd.specs.declared.width.Width.{Width}
 use Rattle.ucd.specs.declared.width.Width.TheVariants as width
 
--- a property that no value of a layer changes stays the same when a value of that layer is applied
+-- if no value of a layer changes a property, applying the layer leaves the property unchanged
 kept : {V X : Type 0} (put : V → PropertyAnswers → PropertyAnswers) (property : PropertyAnswers → X)
     → ((v : V) (a : PropertyAnswers) → property (put v a) ≡ property a) → (o : Option V) (a : PropertyAnswers)
     → property (put_by put o a) ≡ property a
@@ -98,8 +98,8 @@ width_keeps_future : (v : Width) (a : PropertyAnswers) → (put_width v a).is_fu
 width_keeps_future width.Wide a = refl
 width_keeps_future width.Other a = refl
 
--- once the value from its own layer has been applied, a property has that value, or its default if there is
--- none
+-- after its own layer has been applied, a property has the value from that layer, or its default if the layer
+-- has no value
 class_put : (o : Option BidiClass) (a : PropertyAnswers) (class : BidiClass) → a.bidi_class ≡ class → (put_by put_bidi_class o a).bidi_class ≡ unwrap_or o class
 class_put None a class is = is
 class_put (Some v) a class is = refl

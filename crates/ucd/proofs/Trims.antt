@@ -4,7 +4,8 @@ use Rattle.std.specs.List.{prefix_len, suffix_len}
 use Rattle.std.proofs.lemmas.List.Sums.{prefix_len_is, suffix_len_is}
 use Rattle.ucd.specs.Grammar.{trimmed}
 
--- `rest` up to `end` is the trimmed list if the bytes around it pass the test, and its first and last byte fail it
+-- the first `end` bytes of `rest` are the trimmed list if all bytes around them pass the test, and the first
+-- and the last of them fail the test
 pub trimmed_at : (p : ℕ → Bool) (bytes rest : List ℕ) (start end : ℕ) → rest ≡ drop start bytes → start ≤ length bytes
     → ((k : ℕ) → k < start → p (get_or bytes k 0) ≡ true) → (start < length bytes → p (get_or bytes start 0) ≡ false)
     → end ≤ length rest → ((k : ℕ) → end ≤ k → k < length rest → p (get_or rest k 0) ≡ true)

@@ -33,7 +33,7 @@ blanks = 32 ∷ 9 ∷ 13 ∷ []
 abbrev pub before_comment : List ℕ → List ℕ
 before_comment line = before_first (is_mark 35) line
 
--- that part without the white space at both ends
+-- the part of a line before the first `#`, without the white space at both ends
 abbrev pub content_of : List ℕ → List ℕ
 content_of line = trimmed (is_one_of blanks) (before_comment line)
 

@@ -5,12 +5,13 @@ use Rattle.ucd.specs.declared.grammar.Entry.{Entry}
 use Rattle.ucd.specs.Grammar.{Form, reading_of}
 
 module _ {V : Type 0} where
-  -- the entries have valid ranges, the first at or after `low`, and each later one after the end of the one before
+  -- the entries have valid ranges, the first starts at `low` or later, and each later range starts after the
+  -- previous one ends
   abbrev pub AreRisingFrom : ℕ → List (Entry V) → Type 0
   AreRisingFrom low [] = ⊤
   AreRisingFrom low (e ∷ es) = (low ≤ e.first) × (e.first ≤ e.last) × (e.last < 1114112) × AreRisingFrom (e.last + 1) es
 
-  -- a list of the entry if it has code points, or else an empty list
+  -- a list that contains only the entry, or an empty list if the entry has no code points
   abbrev pub if_any : Entry V → List (Entry V)
   if_any e = if nat_le e.first e.last then e ∷ [] else []
 

@@ -60,6 +60,6 @@ said k c =
     (put_by put_bracket (value_at k.brackets c) (put_by put_bidi_class (value_at k.bidi_classes c)
     (put_by put_bidi_class (value_at k.default_classes c) unnamed))))))))
 
--- the version has the line breaking class of each character
+-- the line breaking class of each character exists in the version
 abbrev pub AreKnown : Version → Entries → Type 0
 AreKnown version e = (c : ℕ) → IsScalar c → line_class_in version (line_class_by e c) ≡ line_class_by e c

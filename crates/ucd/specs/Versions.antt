@@ -27,7 +27,7 @@ abbrev pub line_class_in : Version → LineClass → LineClass
 line_class_in V15_0 class = if nat_lt (line_tag class) LINE_CLASS_COUNT_15 then class else XX
 line_class_in V17_0 class = class
 
--- the number of line-breaking numbers
+-- how many line-breaking numbers the version has
 abbrev pub number_count : Version → ℕ
 number_count V15_0 = 43
 number_count V17_0 = 56
@@ -40,7 +40,7 @@ abbrev pub is_quotation : LineClass → Bool
 is_quotation QU = true
 is_quotation _ = false
 
--- LB1 resolves the class to AL (SA only if the character is not a mark)
+-- whether LB1 resolves the class to AL (SA only if the character is not a mark)
 abbrev pub is_alphabetic : LineClass → Bool
 is_alphabetic AI = true
 is_alphabetic AL = true
@@ -59,7 +59,7 @@ abbrev pub quote_in : Version → Category → LineClass → LineDetail → Line
 quote_in V15_0 category class detail = detail
 quote_in V17_0 category class detail = quote_by category class detail
 
--- the detail of U+25CC, if it has this class
+-- the detail of U+25CC, given its class
 abbrev pub circle_by : LineClass → LineDetail → LineDetail
 circle_by class detail = if is_alphabetic class then DottedCircle else detail
 

@@ -118,7 +118,7 @@ impl BidiClass {
     }
 }
 
-// Returns the class with this short name, if it is one of those on nearly all lines of DerivedBidiClass.txt.
+// Looks up the few names on nearly all lines of DerivedBidiClass.txt. Returns `None` for other names.
 fn frequent(name: &[u8]) -> Option<BidiClass>
     ensures { IfSome result (λ class. name.now ≡ name_of class) }
 {

@@ -1,4 +1,4 @@
-//! Distinct pages of the properties of all code points, for an image.
+//! Divides the properties of all code points into pages for an image, and stores equal pages only once.
 ghost use Rattle.std.specs.Prelude.{◌≡◌, ℕ, ◌+◌, ◌*◌, ◌%◌, ◌<◌, ◌≤◌, ◌++◌, ◌⊎◌};
 ghost use Rattle.std.specs.Prelude.{true, false, length, slice_index_or, IfOk, OnOk, MatchOption};
 ghost use Rattle.ucd.specs.Answers.{unnamed};
@@ -10,14 +10,14 @@ use crate::pages::{PAGE, PLACES, are_equal};
 use crate::properties::Properties;
 use std::alloc::{AllocError, Global};
 
-/// The page number of each block, and pages, no two of which are equal.
+/// The page number of each block, and the pages, no two of which are equal.
 #[derive(Drop)]
 pub struct DistinctPages {
     pub(crate) index: Vec<u16>,
     pub(crate) entries: Vec<Properties>,
 }
 
-/// Returns distinct pages of the properties of all code points.
+/// Divides the properties of all code points into pages, and stores equal pages only once.
 pub fn distinct_pages(alloc: Global, points: &[Properties]) -> Result<DistinctPages, AllocError>
     requires points { length points.now ≡ 1114112 }
     ensures pages { IfOk result (λ pages.
@@ -36,7 +36,7 @@ pub fn distinct_pages(alloc: Global, points: &[Properties]) -> Result<DistinctPa
     Ok(DistinctPages { index, entries })
 }
 
-// Returns the number of `page` in `entries`. Appends the page if no page there equals it.
+// Returns the number of `page` in `entries`. If `entries` contains no equal page, appends `page`.
 fn number_of(entries: &mut Vec<Properties>, page: &[Properties]) -> Result<u16, AllocError>
     requires page { length page.now ≡ 256 }
     requires whole { length entries.old.items % 256 ≡ 0 }

@@ -1,4 +1,4 @@
-//! U+25CC DOTTED CIRCLE, which has a detail in Unicode 17.0.
+//! U+25CC DOTTED CIRCLE, which has its own `LineDetail` in Unicode 17.0.
 ghost use Rattle.std.specs.Prelude.{◌≡◌};
 ghost use Rattle.ucd.specs.Defaults.{circle_entries};
 ghost use Rattle.ucd.specs.Puts.{put_circle};

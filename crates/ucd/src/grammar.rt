@@ -61,7 +61,7 @@ pub trait Layer: Copy + Drop {
         ensures { result ≡ put version self properties };
 }
 
-/// Returns the bytes before the first `mark`, and the bytes after it if there is one.
+/// Returns the bytes before the first `mark` and, if `mark` occurs, the bytes after it.
 pub(crate) fn cut(bytes: &[u8], mark: u8) -> (&[u8], Option<&[u8]>)
     ensures front { result.0.now ≡ before_first (is_mark mark) bytes.now }
     ensures rest { option_map (λ rest. rest.now) result.1 ≡ rest_after mark bytes.now }

@@ -55,7 +55,7 @@ fn stored_pages(alloc: Global, bytes: &[u8], pages: usize) -> Result<ImagePages,
     ImagePages::new(alloc, index, entries)
 }
 
-/// Decodes the brackets, once the pages have been decoded.
+/// Decodes the brackets of an image whose pages are valid.
 pub fn decode_brackets(alloc: Global, bytes: &[u8]) -> Result<BTreeMap<u32, Bracket>, ImageFault>
     requires framed { IsFramed bytes.now }
     requires known { ArePagesKnown bytes.now }
@@ -71,7 +71,7 @@ pub fn decode_brackets(alloc: Global, bytes: &[u8]) -> Result<BTreeMap<u32, Brac
     }
 }
 
-/// Decodes the mirrors, once the brackets have been decoded.
+/// Decodes the mirrors of an image whose pages and brackets are valid.
 pub fn decode_mirrors(alloc: Global, bytes: &[u8]) -> Result<BTreeMap<u32, Mirror>, ImageFault>
     requires framed { IsFramed bytes.now }
     requires known { ArePagesKnown bytes.now }
@@ -88,8 +88,8 @@ pub fn decode_mirrors(alloc: Global, bytes: &[u8]) -> Result<BTreeMap<u32, Mirro
     }
 }
 
-/// Returns whether the flag is set in the properties of exactly the code points in `points`, which is the map
-/// of the pairs from byte `start` on.
+/// Returns whether the flag is set for exactly the code points in `points`. The map `points` must contain
+/// exactly the pairs that begin at offset `start`.
 pub fn are_flags<P: Point>(
     pages: &ImagePages,
     points: &BTreeMap<u32, P>,

@@ -1,4 +1,4 @@
-//! The numbers in the bytes of an image, and their checksum.
+//! Reads numbers from the bytes of an image, and computes its checksum.
 ghost use Rattle.std.specs.Prelude.{◌≡◌, ◌+◌, ◌*◌, ◌≤◌, length};
 ghost use Rattle.ucd.specs.Images.{u16_at, u32_at, u64_at, checksum};
 

@@ -1,4 +1,4 @@
-//! Why bytes are not an image of the tables.
+//! Errors in an image of the tables.
 use thiserror::Error;
 
 /// What is wrong with an image. The first fault in this order is reported, but `Truncated` comes after
@@ -11,7 +11,7 @@ pub enum ImageFault {
     /// The image does not begin with `hordguli-ucd`.
     #[error("not an image of tables")]
     Magic,
-    /// The image has another version of the format.
+    /// The image has an unsupported version of the format.
     #[error("the image has another format")]
     Format,
     /// The version of Unicode is neither 15.0 nor 17.0.

@@ -20,7 +20,7 @@ pub const HEADER: usize = 32;
 /// The offset of the pages.
 pub const PAGES_AT: usize = 8736;
 
-/// Returns the version of Unicode in the header, or 15.0 if the number there is not that of 17.0.
+/// Returns the Unicode version in the header: 17.0 if the header has its number, and otherwise 15.0.
 pub fn image_version(bytes: &[u8]) -> Version
     requires { 32 ≤ length bytes.now }
     ensures { result ≡ image_version bytes.now }

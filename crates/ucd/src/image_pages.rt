@@ -86,7 +86,7 @@ pub struct ImagePages {
         → IsQuiet (slice_index_or entries.items (p * 256 + k) unnamed) },
 }
 
-// Returns for each page whether it has a separator, a bracket or a mirror.
+// Returns, for each page, whether it contains a paragraph separator, a bracket, or a character with a mirror.
 fn loud_pages(alloc: Global, entries: &[Properties]) -> Result<Vec<bool>, AllocError>
     requires { length entries.now % 256 ≡ 0 }
     ensures len { IfOk result (λ loud. length loud.items * 256 ≡ length entries.now) }
@@ -102,8 +102,8 @@ fn loud_pages(alloc: Global, entries: &[Properties]) -> Result<Vec<bool>, AllocE
     Ok(loud)
 }
 
-// Returns whether the page that starts at an index has a separator, a bracket or a mirror. Reads the whole
-// page, which is faster than exiting the loop early.
+// Returns whether the page that starts at an index contains a paragraph separator, a bracket, or a character
+// with a mirror. Reads the whole page, which is faster than exiting the loop early.
 fn is_loud(entries: &[Properties], start: usize) -> bool
     requires { start + 256 ≤ length entries.now }
     ensures { result ≡ false → (k : ℕ) → k < 256 → IsQuiet (slice_index_or entries.now (start + k) unnamed) }
@@ -145,8 +145,8 @@ impl ImagePages {
         self.entries[self.index[point / PAGE] as usize * PAGE + point % PAGE]
     }
 
-    /// Returns whether a block has no separator, bracket or mirror. May also return `false` for a block
-    /// without any of these.
+    /// Returns `true` only if a block contains no paragraph separator, no bracket, and no character with a
+    /// mirror.
     pub fn is_quiet(&self, block: usize) -> bool
         requires { block < 4352 }
         ensures { result ≡ true → (c : ℕ) → block * 256 ≤ c → c < block * 256 + 256
@@ -155,7 +155,7 @@ impl ImagePages {
         !self.loud[self.index[block] as usize]
     }
 
-    // Returns whether only U+0085, U+2029 and code points below U+0020 have class B in a block.
+    // Returns whether every code point of class B in a block is U+0085, U+2029 or below U+0020.
     fn is_block_usual(&self, block: usize) -> bool
         requires { block < 4352 }
         ensures yes { result ≡ true → (c : ℕ) → block * 256 ≤ c → c < block * 256 + 256
@@ -174,7 +174,7 @@ impl ImagePages {
         true
     }
 
-    // Returns whether only U+0085, U+2029 and code points below U+0020 have class B.
+    // Returns whether every code point of class B is U+0085, U+2029 or below U+0020.
     fn are_usual(&self) -> bool
         ensures yes { result ≡ true → (c : ℕ) → c < 1114112
             → IsUsual c (answers_at self.now.index.items self.now.entries.items c) }
@@ -208,8 +208,7 @@ impl ImagePages {
     }
 }
 
-// Returns whether a code point with these properties has class B only if it is U+0085, U+2029 or below
-// U+0020.
+// Returns whether the bidi class is not B, or the code point is U+0085, U+2029 or below U+0020.
 fn is_usual(properties: Properties, c: usize) -> bool
     ensures yes { result ≡ true → IsUsual c properties }
     ensures no { result ≡ false → ¬ (IsUsual c properties) }

@@ -1,4 +1,4 @@
-//! The parts of an image as bytes.
+//! Encodes the parts of an image as bytes.
 ghost use Rattle.std.specs.Prelude.{◌≡◌, ℕ, ◌+◌, ◌*◌, ◌/◌, ◌%◌, ◌<◌, ◌≤◌};
 ghost use Rattle.std.specs.Prelude.{length, slice_index, slice_index_or, take, codes};
 ghost use Rattle.std.specs.Prelude.{Some, MatchOption, IfOk, OnOk, IsTrue};

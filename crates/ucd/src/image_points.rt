@@ -15,8 +15,8 @@ use crate::range_table::CODE_POINTS;
 use std::alloc::{AllocError, Global};
 use std::collections::BTreeMap;
 
-/// A property that an image stores outside the pages, as a number for each code point that has it. A flag in
-/// the properties says which code points have it.
+/// A property that an image stores outside the pages, as pairs of a code point and a number. A flag in the
+/// properties of a code point says whether the code point has this property.
 pub trait Point: Copy + Drop {
     ghost use Rattle.std.specs.Prelude.{ℕ, Bool, Option};
     ghost use Rattle.ucd.specs.Answers.{PropertyAnswers};
@@ -25,7 +25,7 @@ pub trait Point: Copy + Drop {
 
     ghost flag: { PropertyAnswers → Bool };
 
-    /// Returns the value that a number encodes, if it encodes one.
+    /// Returns the value that a number encodes, or `None` if the number encodes no value.
     fn from_number(number: u32) -> Option<Self>
         ensures { result ≡ decode number };
 
@@ -33,13 +33,13 @@ pub trait Point: Copy + Drop {
     fn number(self) -> u32
         ensures { decode result ≡ Some self };
 
-    /// Returns the flag for this property.
+    /// Returns whether the flag for this property is set.
     fn is_flagged(properties: Properties) -> bool
         ensures { result ≡ flag properties };
 }
 
-// Decodes the pair at an offset. Returns the code point and its value, if the code point is at least `next`
-// and the second number encodes a value.
+// Decodes the pair at an offset. Returns the code point and its value, if the code point is in range and at
+// least `next`, and the second number encodes a value.
 fn pair_at<P: Point>(bytes: &[u8], at: usize, next: u32) -> Option<(u32, P)>
     requires { at + 8 ≤ length bytes.now }
     ensures { MatchOption result
@@ -58,8 +58,8 @@ fn pair_at<P: Point>(bytes: &[u8], at: usize, next: u32) -> Option<(u32, P)>
     }
 }
 
-/// Returns a map of the pairs from the offset `start` on. Returns `None` if their code points are out of range or
-/// not in ascending order, or if a number encodes no value.
+/// Decodes the pairs from the offset `start` on into a map. Returns `None` if their code points are out of
+/// range or not in ascending order, or if a number encodes no value.
 pub fn points_in<P: Point>(
     alloc: Global,
     bytes: &[u8],
@@ -83,7 +83,7 @@ pub fn points_in<P: Point>(
     Ok(Some(points))
 }
 
-/// Returns whether the code point of each pair has its flag set.
+/// Returns whether the flag is set for the code point of each pair.
 pub fn are_points_flagged<P: Point>(
     pages: &ImagePages,
     bytes: &[u8],
@@ -126,7 +126,7 @@ pub fn are_flags_points<P: Point>(pages: &ImagePages, points: &BTreeMap<u32, P>)
     true
 }
 
-// Returns whether each code point of a block whose flag is set is in the map.
+// Returns, for one block, whether each code point whose flag is set is in the map.
 fn are_flags_points_of<P: Point>(
     pages: &ImagePages,
     points: &BTreeMap<u32, P>,

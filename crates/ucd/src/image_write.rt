@@ -18,7 +18,7 @@ use crate::range_table::CODE_POINTS;
 use crate::version::Version;
 use std::alloc::{AllocError, Global};
 
-/// Returns the image that has these parts.
+/// Joins a header, the given parts and the checksum into an image.
 pub fn joined(
     alloc: Global,
     version: Version,

@@ -1,4 +1,4 @@
-//! Reads table files of the Unicode Character Database, and looks up characters in them.
+//! Reads table files of the Unicode Character Database, and looks up the properties of characters.
 //!
 //! Each line of a file is checked against the file's grammar. The lines may be in any order. An error reports
 //! the file, the line and the cause. The properties of each code point are stored in 16 bits, in pages, so a

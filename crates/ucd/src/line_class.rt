@@ -71,10 +71,10 @@ pub enum LineClass {
 /// The number of classes.
 pub(crate) const LINE_CLASS_COUNT: usize = 49;
 
-/// The number of classes of Unicode 15.0, which are the first ones.
+/// The number of classes of Unicode 15.0. These classes come first in the enum.
 pub(crate) const LINE_CLASS_COUNT_15: usize = 43;
 
-/// The number of line-breaking numbers. Each encodes a class and a detail (specs/LineNumbers.antt).
+/// How many line-breaking numbers exist. Each encodes a class and a detail (specs/LineNumbers.antt).
 pub(crate) const LINE_NUMBER_COUNT: usize = 56;
 
 // The classes in the order of the enum. The lists of variants and of names are generated from this list.
@@ -153,8 +153,8 @@ impl LineClass {
         NUMBERED[number]
     }
 
-    // Returns the class itself if the version has it, or else XX. A file of this version contains no other
-    // classes.
+    // Returns this class if it exists in the version, and XX otherwise. A file of the version assigns only
+    // classes that exist in the version.
     fn in_version(self, version: Version) -> LineClass
         ensures { result ≡ line_class_in version self }
     {
@@ -182,7 +182,7 @@ fn named(classes: &[LineClass], name: &[u8]) -> Option<LineClass>
         .find(|class| class.name().as_bytes() == name)
 }
 
-// Returns the class with this short name, if it is one of those on nearly all lines of LineBreak.txt.
+// Looks up the few names on nearly all lines of LineBreak.txt. Returns `None` for other names.
 fn frequent(name: &[u8]) -> Option<LineClass>
     ensures all { IfSome result (λ class. Some class ≡ class_named name.now) }
     ensures first { IfSome result (λ class. Some class ≡ class_named_15 name.now) }

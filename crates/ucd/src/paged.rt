@@ -124,7 +124,7 @@ impl PagedTables {
         self.version
     }
 
-    /// States that the version has the line breaking class and the detail of each character.
+    /// States that the line breaking class and the detail of each character exist in the version.
     pub fn properties_fit_version(&self)
         ensures { (c : ℕ) → c < 1114112 → IsOfVersion self.now.version (properties_of self.now c) }
     {
@@ -187,7 +187,7 @@ impl PagedTables {
         }
     }
 
-    /// Does the same as `look_up` for tables in which only LF and CR end paragraphs.
+    /// Like `look_up`, but with the bidi classes of tables in which only LF and CR end paragraphs.
     pub fn look_up_for_lines(&self, text: &[char], properties: &mut [Properties])
         requires { length properties.old ≡ length text.now }
         ensures { properties.new ≡ map (properties_of (with_line_separators self.now)) text.now }

@@ -20,7 +20,7 @@ use std::alloc::{AllocError, Global};
 /// The number of code points in a page.
 pub const PAGE: usize = 256;
 
-/// The number of pages that all code points would need if none were shared.
+/// The number of pages that all code points would need if no page were shared.
 pub const PLACES: usize = 4_352;
 
 /// The concatenated pages, and the page number of each block of 256 code points.
@@ -68,8 +68,8 @@ pub fn entry_of(index: &[u16], entries: &[Properties], c: char) -> Properties
     entries[index[point / PAGE] as usize * PAGE + point % PAGE]
 }
 
-/// Returns the pages of all code points. A block in the same run as the whole block before it is not
-/// examined, because both have the same page.
+/// Returns the pages of all code points. If the previous block and this block are in the same run, this block
+/// is not examined, because both have the same page.
 pub fn pages_of(alloc: Global, version: Version, entries: &Entries) -> Result<Pages, AllocError>
     ensures { IfOk result (λ pages. (c : ℕ) → c < 1114112
         → answers_at pages.index.items pages.entries.items c ≡ said (layers_of version entries.now) c) }
@@ -137,7 +137,7 @@ fn set_all(page: &mut [Properties], first: usize, end: usize, properties: Proper
     }
 }
 
-// Returns whether only U+0085, U+2029 and code points below U+0020 have class B.
+// Returns whether every code point of class B is U+0085, U+2029 or below U+0020.
 fn are_usual(index: &[u16], entries: &[Properties]) -> bool
     requires places { length index.now ≡ 4352 }
     requires within { (p : ℕ) → p < 4352 → slice_index index.now p * 256 + 256 ≤ length entries.now }

@@ -37,7 +37,7 @@ pub fn plain_line(line: &[u8]) -> Option<PlainLine<'_>>
 }
 
 // Parses the code point or range with which a line begins. Returns the first and the last code point, and the
-// index after them.
+// index of the byte that follows.
 fn leading_points(line: &[u8]) -> Option<(u32, u32, usize)>
     ensures within { IfSome result (λ r. (0 < r.2) × (r.2 ≤ length line.now)) }
     ensures points { IfSome result (λ r. points_of true (take r.2 line.now) ≡ Some (r.0, r.1)) }

@@ -10,8 +10,7 @@ use crate::line_detail::LineDetail;
 use crate::version::Version;
 use std::marker::Model;
 
-/// The number of values of `Properties::line_index`: 8 for each value of the six bits of a line-breaking
-/// number.
+/// An exclusive upper bound on `Properties::line_index`: 8 values for each six-bit line-breaking number.
 pub const LINE_INDEX_COUNT: usize = 512;
 
 // Returns whether a code point is one of U+001C to U+001E, U+0085 and U+2029.
@@ -116,7 +115,7 @@ impl Properties {
         }
     }
 
-    /// Returns the properties of a code point in tables in which only LF and CR end paragraphs.
+    /// Returns the properties that the code point has in tables in which only LF and CR end paragraphs.
     #[inline]
     pub(crate) fn for_lines(self, point: u32) -> Properties
         ensures { result ≡ answers_for_lines point self }
@@ -140,7 +139,7 @@ impl Properties {
         }
     }
 
-    /// Returns the properties of an initial quotation mark, if the line breaking class is QU.
+    /// Returns the properties with the detail `Initial` if the line breaking class is QU.
     pub(crate) fn with_initial_quote(self) -> Properties
         ensures { result ≡ record self {
           line_detail = quote_by InitialQuote self.line_class self.line_detail;
@@ -153,7 +152,7 @@ impl Properties {
         }
     }
 
-    /// Returns the properties of a final quotation mark, if the line breaking class is QU.
+    /// Returns the properties with the detail `Final` if the line breaking class is QU.
     pub(crate) fn with_final_quote(self) -> Properties
         ensures { result ≡ record self {
           line_detail = quote_by FinalQuote self.line_class self.line_detail;
@@ -166,7 +165,7 @@ impl Properties {
         }
     }
 
-    /// Returns the properties of a dotted circle, if LB1 resolves the line breaking class to AL.
+    /// Returns the properties with the detail `DottedCircle` if LB1 resolves the line breaking class to AL.
     pub(crate) fn with_circle(self) -> Properties
         ensures { result ≡ record self { line_detail = circle_by self.line_class self.line_detail } }
     {
@@ -277,7 +276,7 @@ impl Properties {
         LineClass::in_number((self.bits / 1024) as usize)
     }
 
-    /// Returns what the rules of Unicode 17.0 need to know besides the line breaking class.
+    /// Returns what the line breaking rules of Unicode 17.0 need to know besides the line breaking class.
     pub fn line_detail(self) -> LineDetail
         ensures { result ≡ self.line_detail }
     {

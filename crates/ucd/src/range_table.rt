@@ -30,7 +30,7 @@ impl<V> Model for RangeTable<V> {
     ghost invariant = { λ t. AreApart t.entries.items × AreNamed t.entries.items t.named.items };
 }
 
-// Returns flags that mark none of `len` code points as named.
+// Returns `len` flags, none of which is set.
 fn nothing_named(alloc: Global, len: usize) -> Result<Vec<bool>, AllocError>
     ensures len { IfOk result (λ named. length named.items ≡ len) }
     ensures each { IfOk result (λ named. (c : ℕ) → slice_index_or named.items c false ≡ false) }

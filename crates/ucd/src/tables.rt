@@ -126,7 +126,7 @@ impl Tables {
         Ok(Tables::in_shared(shared))
     }
 
-    // Returns the tables in a shared block of memory.
+    // Wraps tables that are in a shared block of memory.
     fn in_shared(shared: Arc<PagedTables>) -> Tables
         ensures { result ≡ arc_value shared }
     {
@@ -218,8 +218,8 @@ impl Tables {
         self.properties(c).line_class()
     }
 
-    /// Returns what the rules of Unicode 17.0 need to know besides the line breaking class. In tables of
-    /// Unicode 15.0, it is always `Plain`.
+    /// Returns what the line breaking rules of Unicode 17.0 need to know besides the line breaking class.
+    /// Always returns `Plain` for tables of Unicode 15.0.
     pub fn line_detail(&self, c: char) -> LineDetail
         ensures { result ≡ line_detail_of self.now c }
     {

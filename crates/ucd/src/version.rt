@@ -14,7 +14,7 @@ pub enum Version {
 }
 
 impl Version {
-    /// Returns how many line-breaking numbers there are. Each encodes a line breaking class and a detail.
+    /// Returns how many line-breaking numbers the version has. Each encodes a class and a detail.
     pub(crate) fn number_count(self) -> u16
         ensures { result ≡ number_count self }
     {

@@ -25,7 +25,7 @@ pub const HORDGULI_NOT_MEASURED: hordguli_status = 16;
 
 // Version
 pub const HORDGULI_VERSION_MAJOR: u32 = 0;
-pub const HORDGULI_VERSION_MINOR: u32 = 5;
+pub const HORDGULI_VERSION_MINOR: u32 = 6;
 pub const HORDGULI_VERSION_PATCH: u32 = 0;
 
 // Session options
@@ -493,7 +493,7 @@ pub struct hordguli_character {
 extern "C" {
     /// Returns a short English description of a status, or "unknown status".
     pub fn hordguli_status_text(status: hordguli_status) -> *const c_char;
-    /// Returns the version of the library, such as "0.5.0".
+    /// Returns the version of the library, such as "0.6.0".
     pub fn hordguli_version() -> *const c_char;
     /// Returns "15.0", the Unicode version of tables that `hordguli_tables_open_builtin`, `hordguli_tables_open_folder` and
     /// `hordguli_tables_read` open.

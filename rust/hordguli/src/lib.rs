@@ -208,7 +208,7 @@ pub use text::{
     properties, reasons, row, row_runs, script_runs, valid_utf8, wrap,
 };
 
-/// Returns the version of the C library, such as `0.5.0`.
+/// Returns the version of the C library, such as `0.6.0`.
 #[must_use]
 pub fn version() -> &'static str {
     ffi::version()

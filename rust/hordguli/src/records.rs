@@ -166,7 +166,7 @@ pub struct Place {
     pub paragraph: usize,
     /// The line.
     pub line: usize,
-    /// The characters of the line before the place.
+    /// The number of the line's characters before the position.
     pub offset: usize,
 }
 
@@ -470,7 +470,7 @@ pub struct Reason {
     pub partner: Option<usize>,
     /// In the cases B, C1 and C2, the first strong character inside the pair that decides.
     pub inside: Option<usize>,
-    /// The character before a run of neutrals. If X9 removes the character, the one whose level it has.
+    /// The character before a run of neutrals. For a character that X9 removes, the one whose level it has.
     pub left: Option<usize>,
     /// The character after a run of neutrals.
     pub right: Option<usize>,

@@ -371,7 +371,7 @@ impl Session {
     /// Returns the character that contains a byte, and how many of the character's bytes precede that byte: 0 at its
     /// start.
     ///
-    /// At the end of the text, it is the number of characters, and 0.
+    /// At the end of the text, the result is the number of characters and 0.
     ///
     /// # Errors
     ///
@@ -387,7 +387,7 @@ impl Session {
     /// Returns the character that contains a UTF-16 code unit, and how many of the character's units precede that unit:
     /// 0 at its start.
     ///
-    /// At the end of the text, it is the number of characters, and 0.
+    /// At the end of the text, the result is the number of characters and 0.
     ///
     /// # Errors
     ///
@@ -527,7 +527,7 @@ impl Session {
 
     // ---- Carets and hits ----
 
-    /// Returns the place of the character at `pos`. At the end of the text, it is after the last character.
+    /// Returns the place of the character at `pos`. The end of the text is placed after the last character.
     ///
     /// But if the text is empty or ends with a separator, its end is at the start of the next paragraph, which does not exist yet.
     /// Then `paragraph` and `line` are the numbers of paragraphs and lines in the text.

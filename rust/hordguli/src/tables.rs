@@ -124,7 +124,7 @@ impl fmt::Debug for Tables {
     }
 }
 
-/// Returns a path as C takes it.
+/// Returns a path as a C string.
 fn c_path(path: &Path) -> Result<CString, Error> {
     use std::os::unix::ffi::OsStrExt;
     CString::new(path.as_os_str().as_bytes()).map_err(|_| Error::UnreadFile(TABLE_FILES[0]))

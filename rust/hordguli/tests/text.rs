@@ -101,7 +101,7 @@ fn line_separators_alone_end_paragraphs() {
     assert_eq!(paragraphs(only), (2, 4));
     let embedded = ['\u{202b}', 'a', '\u{2029}', 'b'];
     let numbers = |options| levels(&tables(), &embedded, options).unwrap()[2].number();
-    assert_eq!(numbers(Options::new()), 1); // (N1: between the ends of the embedding; L1 resets it)
+    assert_eq!(numbers(Options::new()), 1); // (N1: sos and eos are R; L1 resets the level)
     assert_eq!(numbers(only), 2);
     assert_eq!(
         base_level(&tables(), &embedded, only),

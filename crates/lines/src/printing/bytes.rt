@@ -111,7 +111,7 @@ fn write_places<W: Sink>(
     Ok(written)
 }
 
-// Encodes the characters at the indices `places[from..]`, as many as fit, at the front of a buffer. Returns
+// Encodes as many of the characters at the indices `places[from..]` as fit at the front of a buffer. Returns
 // the index of the first place not encoded, and the number of bytes written.
 fn encode_places(text: &[char], places: &[u32], from: usize, buffer: &mut [u8]) -> (usize, usize)
     requires within { AreWithin (length text.now) places.now }
@@ -182,7 +182,7 @@ fn write_row<W: Sink, I: Integer>(
     Ok(written)
 }
 
-// Formats `numbers[from..]`, as many as fit, at the front of a buffer. Returns the index of the first number
+// Formats as many of `numbers[from..]` as fit at the front of a buffer. Returns the index of the first number
 // not formatted, and the number of bytes written.
 fn encode_row<I: Integer>(numbers: &[I], from: usize, buffer: &mut [u8]) -> (usize, usize)
     requires { (from < length numbers.now) × (41 ≤ length buffer.old) }

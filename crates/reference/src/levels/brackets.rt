@@ -116,7 +116,7 @@ fn closer_of(pairs: &[Pair], opener: usize) -> Option<usize> {
     None
 }
 
-// Sets the types of a pair, if it has a direction.
+// Sets the types of a pair, if the pair has a direction.
 fn set_pair(
     types: &mut [BidiClass],
     classes: &[BidiClass],
@@ -131,8 +131,8 @@ fn set_pair(
 }
 
 // Returns the direction of a pair. If the pair contains a strong type of the embedding direction, the pair
-// gets that direction. Otherwise, if it contains a strong type of the other direction, it gets the direction
-// of the nearest strong type before the pair.
+// gets that direction. Otherwise, if the pair contains a strong type of the other direction, the pair gets
+// the direction of the nearest strong type before it.
 fn pair_direction(
     types: &[BidiClass],
     opener: usize,

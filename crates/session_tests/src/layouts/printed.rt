@@ -152,8 +152,8 @@ fn fills(
     result == wanted && holds(&taken, &bytes[..room.min(bytes.len())])
 }
 
-// Returns whether `fills` holds for buffers that are larger than the output, exactly as large, and half as
-// large.
+// Returns whether `fills` holds for a buffer that is larger than the output, for one of the same size, and
+// for one of half the size.
 fn fills_each(
     alloc: Global,
     engine: &mut Engine,

@@ -1,4 +1,4 @@
-//! Tests the bytes of a line that is written completely, or up to any failure of the writer.
+//! Tests which bytes of a line are written, both to a writer that accepts all of them and to one that fails.
 use super::printed::{ALL, LEVELS, PLAIN, UNMIRRORED};
 use super::{engine, lay_out};
 use device::ToWrite;

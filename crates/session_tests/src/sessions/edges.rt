@@ -19,7 +19,8 @@ type CaretRow<'a> = (&'a str, u16, Row, Option<(usize, usize, u8)>);
 
 const MIXED: &str = "abc \u{5d0}\u{5d1}\u{5d2} def";
 
-// A right-to-left family of two. RLO is before it, since emoji have class L in the test tables.
+// An emoji cluster of a man, a joiner and a woman, after RLO. The cluster is right-to-left only because of
+// RLO, since emoji have class L in the test tables.
 const FAMILY: &str = "\u{202e}\u{1f468}\u{200d}\u{1f469}";
 
 static CARETS: [CaretRow<'_>; 15] = [

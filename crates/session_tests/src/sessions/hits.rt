@@ -1,5 +1,5 @@
-//! Tests of the characters at columns, of carets, of the columns of lines, of grapheme clusters, of words and of
-//! reasons.
+//! Tests of the characters at columns, of carets, of the columns of lines, of grapheme clusters, of words and
+//! of reasons.
 use super::{Check, Pair, check_in_tree, renew};
 use breaks::LineRule;
 use session::{Caret, CharReasons, Cluster, EditFault, Hit, Kept, Session, Word};
@@ -224,8 +224,8 @@ fn is_word<S: ParagraphStore<Kept>>(
     }
 }
 
-// A text and a position; where the paragraph starts, the level, the bracket's partner in the paragraph, and the
-// rule that decides the break mark.
+// A text and a position; where the paragraph starts, the level, the bracket's partner in the paragraph, and
+// the rule that decides the break mark.
 type ReasonRow<'a> = (&'a str, usize, Option<(usize, u8, Option<usize>, LineRule)>);
 
 static REASONS: [ReasonRow<'_>; 4] = [
@@ -235,7 +235,7 @@ static REASONS: [ReasonRow<'_>; 4] = [
     ("b\na(\u{5d0})", 6, None),
 ];
 
-// Returns reasons, and tries again after an allocation failure.
+// Returns the reasons for a character, and tries again after an allocation failure.
 fn reasons<S: ParagraphStore<Kept>>(
     session: &Session<S>,
     pos: usize,

@@ -1,6 +1,6 @@
 //! Makes random edits of a measured session, and sets random advances and widths. Each result is compared
-//! with a simple reference implementation, which keeps the text and its advances in two lists and finds the
-//! lines one after the other. Some results are also compared with a session that is opened on the text.
+//! with a simple reference implementation, which keeps the text and the advances in two lists and finds one
+//! line after another. Some results are also compared with a session that is opened on the text.
 use super::random::{Numbers, random_piece};
 use super::{PAGE, pages, same, without_engine};
 use crate::files::{FILES, engine};
@@ -91,8 +91,8 @@ fn have_room(text: &[char], advances: &[u32]) -> bool {
     all
 }
 
-// Returns whether a line may end after the character at an index, if no break opportunity fits. In these
-// texts, no other characters join a cluster.
+// Returns whether a line may end after the character at an index if no break opportunity fits. CR LF needs no
+// case, since separators do not widen a line. Otherwise, only U+0300 continues a cluster in these texts.
 fn ends_cluster(text: &[char], k: usize) -> bool {
     match (text.get(k), text.get(k.wrapping_add(1))) {
         (Some(c), Some('\u{300}')) => ('\u{2066}'..='\u{2069}').contains(c),
@@ -242,7 +242,7 @@ fn of_measuring(fault: AdvanceFault) -> Refusal {
     }
 }
 
-// Makes a change, and returns why it was refused.
+// Makes a change. Returns why the session refused it, or `None` if the change was made.
 fn make(
     alloc: Global,
     session: &mut Session<TreeStore<Kept>>,

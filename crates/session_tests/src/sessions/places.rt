@@ -26,7 +26,7 @@ fn is_place(place: Option<Place>, [paragraph, line, offset]: [usize; 3]) -> bool
         })
 }
 
-// Returns whether the positions have these places, and no other position has one.
+// Returns whether the positions have these places, and no further position has a place.
 fn stand_at<S: ParagraphStore<Kept>>(session: &Session<S>, places: &[[usize; 3]]) -> bool {
     let mut all = session.place(places.len()).is_none();
     for pos in 0..places.len() {
@@ -35,8 +35,8 @@ fn stand_at<S: ParagraphStore<Kept>>(session: &Session<S>, places: &[[usize; 3]]
     all
 }
 
-// Returns whether each paragraph starts at the place of its first line, and no paragraph is after the last
-// one.
+// Returns whether each paragraph's start has offset 0 in the paragraph's first line, and no further paragraph
+// has a start or a first line.
 fn paragraphs_begin<S: ParagraphStore<Kept>>(session: &Session<S>) -> bool {
     let count = session.paragraph_count();
     let mut all = session.paragraph_start(count).is_none();

@@ -57,7 +57,7 @@ fn parts(edit: Edit<'_>) -> (usize, usize, &str) {
     }
 }
 
-// Returns why the edit is refused.
+// Returns why an edit is refused, or `None` if it is accepted.
 fn refusal(text: &str, edit: Edit<'_>) -> Option<EditFault> {
     let (pos, count, _) = parts(edit);
     match edit {
@@ -85,9 +85,9 @@ fn push_part(new: &mut String, text: &str, start: usize, count: usize) -> Result
     Ok(())
 }
 
-// Returns the damage of an edit of the range from `pos` to `end`, and the length of the paragraphs that the
-// edit touches. In the damage, the numbers of new lines and paragraphs are 0. The edit touches the paragraphs
-// whose spans overlap or adjoin the range.
+// Returns the damage of an edit of the range from `pos` to `end`, and the total length of the paragraphs that
+// the edit touches. In the damage, the numbers of new lines and paragraphs are 0. The edit touches the
+// paragraphs whose spans overlap or adjoin the range.
 fn touched<T: ParagraphStore<Kept>>(old: &Session<T>, pos: usize, end: usize) -> (Damage, usize) {
     let (mut first_line, mut old_lines, mut first_par, mut old_pars) = (0, 0, 0, 0);
     let (mut start, mut chars) = (0usize, 0usize);
@@ -125,7 +125,7 @@ fn touched_by<T: ParagraphStore<Kept>>(old: &Session<T>, edit: Edit<'_>) -> (Dam
     }
 }
 
-// Returns by how much an edit may raise the counters.
+// Returns the maximum numbers by which an edit may raise the counters.
 fn bounds<T: ParagraphStore<Kept>>(old: &Session<T>, edit: Edit<'_>) -> [u64; 2] {
     let (_, count, piece) = parts(edit);
     let (_, chars) = touched_by(old, edit);

@@ -9,7 +9,7 @@ use store::ParagraphStore;
 // A text, its width, an edit, the damage, by how much the counters may rise, and the text after the edit.
 type Row<'a> = (&'a str, u16, Edit<'a>, [usize; 6], [u64; 2], &'a str);
 
-// Returns whether the edit has the right result, and leaves the right text.
+// Returns whether an edit returns the expected result and changes the text to the expected text.
 fn is_row<S: ParagraphStore<Kept> + Drop, T: ParagraphStore<Kept> + Drop>(
     rt: &impl Abort,
     pair: &mut Pair<S, T>,

@@ -2,7 +2,7 @@ use Rattle.std.proofs.Common.{ℕ, ◌<◌, List, lit<, below_none, below_more}
 use Rattle.tables.proofs.FolderLemmas.{unread}
 use Rattle.tables.proofs.from_files_as.Goals as goal
 
--- Each file is the first that cannot be read, if those before it can.
+-- A file that cannot be read is the first such file if all files before it can be read.
 pub returns-in_err-bidi_mirroring-clause-err : goal.returns-in_err-bidi_mirroring-clause-err
 returns-in_err-bidi_mirroring-clause-err g c =
     let P : ℕ → Type 0 = λ k. (bytes : List ℕ) × g.F.TableFolder.has_file c.args.folder.now k bytes in

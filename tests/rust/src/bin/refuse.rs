@@ -18,8 +18,8 @@ extern "C" {
 /// Returns the function that says which allocation fails.
 fn refuse() -> Option<unsafe extern "C" fn(c_long)> {
     let name = CString::new("refuse").ok()?;
-    // SAFETY: the name ends with a NUL, and a null pointer stands for all libraries. If there is a function of this name, it is that
-    // of refuse.c, whose type this is.
+    // SAFETY: the name ends with a NUL, and a null pointer stands for all libraries. A function with this
+    // name is that of refuse.c, which has this type.
     unsafe {
         let found = dlsym(null_mut(), name.as_ptr());
         std::mem::transmute(found)
@@ -41,8 +41,8 @@ impl Counts {
         }
     }
 
-    /// Makes a call with each allocation failing, on a new state each time, until it succeeds. After an error, two states must look
-    /// the same.
+    /// Makes a call with each allocation failing, on a new state each time, until it succeeds. After an error,
+    /// the result of `look` must be unchanged.
     fn each<S, T>(
         &mut self,
         name: &str,

@@ -100,7 +100,7 @@ module _ (kinds : List BracketType) (types : List BidiClass) (size : length kind
               (subst (λ closers. Walks look text types (k + 1) (left_by found (places_in pairs openers)) left closers) (sym same) step);
         }
 
-  -- the list of closers is the one of the text's pairs if pairing stops at k
+  -- if pairing stops at k, the list of closers is the list for the text's pairs
   all_by : (k : ℕ) (openers : List Opener) (pairs : List BracketPair) (has_pairs : Bool) → AreFound kinds types k openers pairs has_pairs
       → (look : ℕ → Option Bracket) (text : List ℕ) → kinds ≡ bracket_types look text
       → pairs_of look text types ≡ before look text types k

@@ -7,7 +7,7 @@ use Rattle.bidi.specs.Closers.{pair_of}
 use Rattle.bidi.proofs.PairLemmas.{greatest_next}
 use Rattle.bidi.proofs.brackets.matching.Goals as goal
 
--- the pair read from the opener at m in the list is `pair_of` for m
+-- the pair number of the opener read at m is `pair_of openers m`, also in canonical form
 read : (openers : List Opener) (m : ℕ) → canonical (get_or openers m (record { index = 0; pair = 0 })).pair ≡ canonical (pair_of openers m)
 read openers m = ap canonical (sym (get_or-map (λ (o : Opener). o.pair) openers m (record { index = 0; pair = 0 })))
 

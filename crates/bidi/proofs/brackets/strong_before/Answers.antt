@@ -6,7 +6,8 @@ use Rattle.bidi.specs.Brackets.{context, is_direction}
 use Rattle.bidi.proofs.BracketLemmas.{context-more}
 use Rattle.bidi.proofs.brackets.strong_before.Goals as goal
 
--- the nearest strong type before an index is the type before it, or the nearest one before that
+-- the nearest strong type before an index is the type directly before the index if that is strong, and
+-- otherwise the nearest strong type before that type
 back : (sos : BidiClass) (types : List BidiClass) (at : ℕ) → 0 < at → at ≤ length types
     → context sos types at ≡ (if is_direction (get_or types (at - 1) L) then get_or types (at - 1) L else context sos types (at - 1))
 back sos types at some within =

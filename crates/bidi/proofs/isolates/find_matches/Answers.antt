@@ -8,7 +8,8 @@ use Rattle.bidi.proofs.MatchLemmas.{Opens, Opens-up, Opens-down, Opens-down_none
 use Rattle.bidi.proofs.isolates.find_matches.Goals as goal
 use Rattle.bidi.proofs.isolates.find_matches.Goals.{then-is_initiator+in_ok-push, else-is_initiator+then-is_pdi, else-is_initiator+else-is_pdi}
 
--- the result of testing the class read at k is the result for the class at k
+-- a test of the class read at k has the same result for `class_at`, whose default for a missing class is
+-- different
 told : (p : BidiClass → Bool) (classes : List BidiClass) (k : ℕ) (answer : Bool) → k < length classes → answer ≡ p (get_or classes k L) → p (class_at classes k) ≡ answer
 told p classes k answer within e = ap p (get_or_default classes k ON L within) ∙ sym e
 

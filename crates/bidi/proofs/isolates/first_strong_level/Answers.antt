@@ -57,7 +57,7 @@ place_after-at-requires-clause-found c =
     let here = inside c.args.classes.now c.args.matches.now c.args.initiator c.loop-at.at c.requires.matches c.requires.within c.loop-at-test.true in
     omega (arith, match_there c.args.classes.now c.args.matches.now c.loop-at.at c.requires.matches here, match_at-le c.args.classes.now c.loop-at.at here)
 
--- one step of the search moves on by a character or past a nested isolate, and keeps the state
+-- one step of the search moves past a character or a nested isolate, and `Walks` still holds
 stepped : (classes : List BidiClass) (matches : List ℕ) (i at next : ℕ) (class : BidiClass) (level : Option ℕ) → matches ≡ matches_of classes → (within : i < length classes)
     → (opens : is_initiator (class_at classes i) ≡ true) → at < get_or matches i 0 → Walks classes i at → class ≡ get_or classes at L
     → level ≡ (if is_strong class then Some (strong_level class) else None) → is_some level ≡ false

@@ -7,7 +7,7 @@ use Rattle.bidi.specs.Neutral.{is_neutral}
 use Rattle.bidi.proofs.NeutralLemmas.{run-lower, run-lowered}
 use Rattle.bidi.proofs.neutral.lower_run.Goals as goal
 
--- the type before an index has the neutrality that the function has found
+-- if k + 1 is `at`, the test result for the type read at `at - 1` is the result for the type at k
 here : (types : List BidiClass) (at k : ℕ) (d : BidiClass) (b : Bool) → k + 1 ≡ at → at ≤ length types → is_neutral (get_or types (at - 1) L) ≡ b
     → is_neutral (get_or types k d) ≡ b
 here types at k d b is within found =

@@ -4,7 +4,7 @@ use Rattle.bidi.proofs.TextCutLemmas.{lead_at, plain_to}
 use Rattle.bidi.proofs.text_cuts.next_lead.Goals as goal
 use Rattle.bidi.proofs.text_cuts.next_lead.Goals.{then-bytes-ge-BLOCK+else-first-lt-AT_ONCE-2, else-bytes-ge-BLOCK}
 
--- the first lead of a block
+-- the first position of a block at which a separator may begin
 pub returns-then-first-lt-AT_ONCE-clause-before : goal.returns-then-first-lt-AT_ONCE-clause-before
 returns-then-first-lt-AT_ONCE-clause-before c =
     let at = c.loop-at.at in
@@ -28,7 +28,7 @@ loop-at-preserved c =
           (λ k lt. c.first_lead-first.ensures.before k (omega (arith, lt, c.if-first-lt-AT_ONCE.false)));
     }
 
--- the first lead of the last block
+-- the first position of the last block at which a separator may begin
 pub returns-then-first-lt-AT_ONCE-2-clause-before : goal.returns-then-first-lt-AT_ONCE-2-clause-before
 returns-then-first-lt-AT_ONCE-2-clause-before c =
     let last = length c.args.bytes.now - 34 in

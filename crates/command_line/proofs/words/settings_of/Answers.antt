@@ -16,7 +16,7 @@ texts_or_none : (o : Option (Bor (List (Bor Text)))) (none : Bor (List (Bor Text
 texts_or_none None none empty = ap (map (λ s. s.now)) empty
 texts_or_none (Some s) none empty = refl
 
--- the checks that `--script` has exactly one file and that `--queries` has `--script`, computed from the matches
+-- the checks that `--script` is used with exactly one text, and `--queries` only with `--script`
 some_told : (o : Option (Bor Text)) → is_some (option_map (λ s. s.now) o) ≡ is_some o
 some_told None = refl
 some_told (Some s) = refl
@@ -34,7 +34,7 @@ unreachable-requires c =
     let found = found_of c.args.matches.now in
     true≢false (sym (ap is_some (c.in_default-get_str.ensures ∙ first_value-rows found (codes "ucd")) ∙ c.requires.1.ucd))
 
--- the text of the width is parsed as the number that it denotes
+-- the parsed width is the number that the option's text denotes
 read_width : (E : Type 0) (Gives : Text → Result ℕ E → Type 0) → ((t : Text) (x : Result ℕ E) → Gives t x → ParsesUnsigned 16 10 t x)
     → (f : Found) (r : Option ℕ) → HasNumber (codes "width") 65535 (rows_of f) → ((t : Text) → one_text f (codes "width") ≡ Some t → ReadsOne Gives t r)
     → option_map number_of (first_of (codes "width") (rows_of f)) ≡ r

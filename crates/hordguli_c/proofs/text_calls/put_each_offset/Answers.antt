@@ -20,7 +20,7 @@ turn c =
 within : (c : goal.In-Some) → c.loop-c.k < length c.loop-c.array
 within c = omega (arith, (turn c).0, c.loop-c.invariant.0, c.loop-c.auto.array, c.requires)
 
--- the offset of the next character is the offset of this one plus its length
+-- the offset of the next character is the current character's offset plus the current character's length
 later : (c : goal.After-len_utf8-offset) → c.loop-c.offset + c.len_utf8-offset.result ≡ offset_at (chars c.args.text.now) (c.loop-c.k + 1)
 later c =
     let all = chars c.args.text.now in

@@ -5,7 +5,8 @@ use borrow.Rule.Slice.PartMut.{put_mid}
 use Rattle.hordguli_fribidi.specs.Points.{type_at}
 use Rattle.hordguli_fribidi.proofs.characters.put_types.Goals as goal
 
--- if the front of a list has been mapped, writing the mapped rest maps the whole list
+-- if an array has the mapped items of a list before index `at`, writing the other mapped items at `at`
+-- completes the mapped list
 whole : (f : ℕ → ℕ) (at k : ℕ) (xs old ys : List ℕ) → length old ≡ length xs → at ≤ length xs → k ≡ length old - at → take at old ≡ map f (take at xs)
     → ys ≡ map f (drop at xs) → put_mid at k old ys ≡ map f xs
 whole f at k xs old ys same within rest front back =
@@ -19,7 +20,8 @@ whole f at k xs old ys same within rest front back =
     ∙ ap (λ (zs : List ℕ). zs ++ ys) front ∙ ap (λ (zs : List ℕ). map f (take at xs) ++ zs) back
     ∙ sym (map-append f (take at xs) (drop at xs)) ∙ ap (map f) (take-append-drop at xs)
 
--- writing one more mapped item extends the front that has been mapped
+-- if an array has the mapped items of a list before index `at`, writing the next mapped item at `at` extends
+-- this prefix
 one_more : (f : ℕ → ℕ) (at next : ℕ) (xs old : List ℕ) (x : ℕ) → take at old ≡ map f (take at xs) → at < length xs → length old ≡ length xs
     → x ≡ f (get_or xs at 0) → next ≡ at + 1 → (take next (set old at x) ≡ map f (take next xs)) × (length (set old at x) ≡ length xs)
 one_more f at next xs old x front within same is past = (

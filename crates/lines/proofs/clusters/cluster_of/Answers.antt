@@ -8,7 +8,7 @@ on_err : {A E P : Type 0} (r : Result A E) → P → OnErr r P
 on_err (Ok x) p = tt
 on_err (Err e) p = p
 
--- the window is character k alone
+-- the window contains only character k
 pub returns-then-end-start-eq1-clause-start : goal.returns-then-end-start-eq1-clause-start
 returns-then-end-start-eq1-clause-start c =
     let opens = c.window_start-start.ensures in
@@ -37,7 +37,7 @@ returns-clause-end c =
     ap (λ n. from + n) (c.cluster_end-past.ensures.value ∙ ap (λ (ends : List Bool). cluster_end ends (c.args.k - from)) (c.deref-2.ensures.value ∙ c.in_ok-ends.ensures.ends))
     ∙ sym (window_end c.args.text.now from c.window_end-end.result c.args.k opens.split closes.split opens.most closes.past closes.most)
 
--- a window between two split points next to character k is character k alone
+-- if there are split points directly before and after character k, the window contains only character k
 pub returns-in_err-ends-clause-memory : goal.returns-in_err-ends-clause-memory
 returns-in_err-ends-clause-memory c =
     let opens = c.window_start-start.ensures in

@@ -3,8 +3,8 @@ use Rattle.std.specs.Str.{chars}
 use Rattle.script_commands.specs.Commands.{unescaped}
 use Rattle.script_commands.proofs.commands.unescape.Given as goal
 
--- the characters so far, followed by those that the remaining text represents, are those that the whole text
--- represents
+-- the characters decoded so far, followed by the characters that the remaining text represents, are the
+-- characters that the whole text represents
 abbrev pub invariant-loop-at : goal.invariant-loop-at
 invariant-loop-at l = record {
   within : l.at ≤ length l.text;

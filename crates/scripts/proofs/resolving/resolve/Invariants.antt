@@ -3,7 +3,7 @@ use Rattle.ucd.specs.Tables.{bracket_of}
 use Rattle.scripts.specs.Scripts.{scripts_from, scripts_of}
 use Rattle.scripts.proofs.resolving.resolve.Given as goal
 
--- the scripts so far and those that are left are the scripts of the text
+-- the scripts so far, followed by the scripts of the remaining characters, are the scripts of the text
 abbrev pub invariant-loop-k : goal.invariant-loop-k
 invariant-loop-k l =
     (l.openings.capacity ≡ 63) × (length l.scripts.items ≡ l.k)

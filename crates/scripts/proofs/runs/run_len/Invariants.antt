@@ -4,7 +4,7 @@ use Rattle.ucd_script.specs.Script.{script_eq}
 use Rattle.scripts.specs.Runs.{script_at}
 use Rattle.scripts.proofs.runs.run_len.Given as goal
 
--- the run consists of the characters so far and the following ones that have its script
+-- the run consists of the characters so far and the directly following characters that have the run's script
 abbrev pub invariant-loop-end : goal.invariant-loop-end
 invariant-loop-end l =
     let is_same = script_eq (script_at l.scripts l.start) in (

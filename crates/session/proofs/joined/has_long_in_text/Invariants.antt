@@ -7,7 +7,7 @@ use Rattle.lines.specs.Layouts.{cut_by}
 use Rattle.session.specs.Edits.{is_within_limit}
 use Rattle.session.proofs.joined.has_long_in_text.Given as goal
 
--- no paragraph before the rest is too long
+-- the whole text is within the limit if and only if the rest is
 abbrev pub invariant-loop-rest : goal.invariant-loop-rest
 invariant-loop-rest l =
     let is_cut = cut_by (rules_of l.engine) in

@@ -10,7 +10,7 @@ use Rattle.session.proofs.JoinedLemmas.{first_paragraph, layouts_none, others_wi
 use Rattle.session.proofs.OpenLemmas.{layouts_one, layouts_stored, TotalsFit-front}
 use Rattle.session.proofs.opening.append_all.Goals as goal
 
--- a text that is one paragraph is followed by no text
+-- if a text is one paragraph, no text follows it
 pub append_one-requires-clause-paragraph : goal.append_one-requires-clause-paragraph
 append_one-requires-clause-paragraph g c =
     let whole = chars c.args.text.now in
@@ -121,7 +121,7 @@ returns-clause-ok g c =
     (g.S.ParagraphStore.items c.loop-rest.store ++ c.loop-rest.new.items) c.loop-rest.invariant.laid_out none in
     subst (λ ks. OnOk c.append.result (g.S.ParagraphStore.items c.append.new.store ≡ ks)) all c.append.ensures
 
--- a count that rises by at most what is left stays within the bound for the whole
+-- a count that rises by at most the remaining amount stays within the bound for the whole text
 rises : (whole left done old mid new : ℕ) → old ≤ mid → mid + left ≤ old + whole → done ≤ left → RisesBy done mid new → RisesBy whole old new
 rises whole left done old mid new least most within by = record { least = omega (arith, least, by.least); most = omega (arith, most, within, by.most) }
 

@@ -9,7 +9,7 @@ use Rattle.lines.specs.Layouts.{with_advances}
 use Rattle.session.specs.Kept.{first_advances, layouts_of}
 use Rattle.session.proofs.opening.append_all.Given as goal
 
--- the layouts so far, in the store or not, are followed by those of the remaining text
+-- the stored layouts, the pending ones and those of the remaining text are all layouts
 abbrev pub invariant-loop-rest : goal.invariant-loop-rest
 invariant-loop-rest g l =
     let items = g.S.ParagraphStore.items in

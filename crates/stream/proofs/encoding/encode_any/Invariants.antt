@@ -1,7 +1,7 @@
 use Rattle.std.proofs.Common.{◌≡◌, ◌+◌, ◌-◌, ◌++◌, ◌≤◌, ◌*◌, length, take, encode_utf8_all}
 use Rattle.stream.proofs.encoding.encode_any.Given as goal
 
--- the buffer holds the bytes before the index, and those of the characters encoded so far
+-- the buffer holds its old bytes before the index, followed by the bytes of the characters encoded so far
 abbrev pub invariant-loop-k : goal.invariant-loop-k
 invariant-loop-k l = record {
   read : l.k ≤ length l.piece;

@@ -38,7 +38,7 @@ returns-then-is_ascii-clause-pushed c =
 pub split_at-requires-2 : goal.split_at-requires-2
 split_at-requires-2 c = c.short_len-len.ensures.boundary (subst (λ t. Each1 (λ x. x < 224) (take 16 t)) c.as_bytes.ensures.value (c.is_short.ensures c.if-not-is_short.false))
 
--- the call appends the characters of the front
+-- the call appends the characters at the front of the text
 added : (c : goal.After-push_marked) → c.push_marked.new.characters.items
     ≡ c.args.characters.now.items ++ map short_char (pairs 16 (mask_l (map begins (take 16 c.as_bytes.result.now)) % 2 ^ c.short_len-len.result) (take 16 c.as_bytes.result.now))
 added c =

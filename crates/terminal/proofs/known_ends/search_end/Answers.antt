@@ -8,7 +8,7 @@ use Rattle.terminal.proofs.EndLemmas.{read_front}
 use Rattle.terminal.proofs.KnownEndLemmas.{first_is, no_end_more}
 use Rattle.terminal.proofs.known_ends.search_end.Goals as goal
 
--- equal results have equal numbers
+-- `At` is injective
 at_same : (k n : ℕ) → At k ≡ At n → k ≡ n
 at_same k n e = cc
 

@@ -6,7 +6,7 @@ use Rattle.terminal.specs.Ends.{knows_next}
 use Rattle.terminal.proofs.PassedLemmas.{part_knows, part_next, part_passed, scanned_knows, scanned_passed, unsure_next}
 use Rattle.terminal.proofs.passed.known_next.Goals as goal
 
--- the part is not known
+-- if the end of the part is not known, neither is the next character
 pub returns-then-not-is_known-clause-unknown : goal.returns-then-not-is_known-clause-unknown
 returns-then-not-is_known-clause-unknown c =
     let text = c.args.text.now in
@@ -37,7 +37,7 @@ returns-in-None-clause-known c =
     let at = c.loop-passed in
     part_knows at.passed c.args.text.now c.split_at.result.1.now at.invariant c.split_at.ensures.back ∙ c.in-None.ensures.alone refl
 
--- the part is skipped
+-- skipping a known part preserves the loop invariant
 pub loop-passed-preserved : goal.loop-passed-preserved
 loop-passed-preserved c =
     let text = c.args.text.now in
@@ -50,7 +50,7 @@ loop-passed-preserved c =
     let next = c.at-passed.ensures in
     part_passed at.passed c.at-passed.result text part at.invariant c.split_at.ensures.back c.in-Some.len found.within.1 (found.skips sure) next.start next.scanned next.progress
 
--- nothing is left
+-- if no text is left, the next character is not known
 pub returns-clause-unknown : goal.returns-clause-unknown
 returns-clause-unknown c =
     let text = c.args.text.now in

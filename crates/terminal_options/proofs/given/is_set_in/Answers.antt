@@ -9,7 +9,7 @@ use Rattle.clap.specs.contracts.parser.matches.ValueSourcePartialEq.TheImpl.{eq-
 use Rattle.clap.proofs.TakesLemmas.{present_row}
 use Rattle.terminal_options.proofs.given.is_set_in.Goals as goal
 
--- an argument is set explicitly if its source is not its default
+-- a value source is explicit if and only if it is not `DefaultValue`
 differs : (s : Option ValueSource) → not (option_eq eq-value.it s (Some DefaultValue)) ≡ explicit_source s
 differs None = refl
 differs (Some DefaultValue) = refl

@@ -3,7 +3,7 @@ use Rattle.arrayvec.specs.ArrayVec.{array_vec_len}
 use Rattle.tool.specs.Queries.{listed}
 use Rattle.tool.proofs.answers.listed.Given as goal
 
--- the numbers so far, each after a space
+-- the reply has the numbers so far, each after a space
 abbrev pub invariant-loop-number : goal.invariant-loop-number
 invariant-loop-number l = record {
   items : l.answer.items ≡ listed (take l.number-index l.numbers);

@@ -3,7 +3,7 @@ use Rattle.tool.specs.Queries.{listed}
 use Rattle.tool.proofs.ListingLemmas.{AreWritten}
 use Rattle.tool.proofs.listings.write_each_end.Given as goal
 
--- all items before the remaining ones were written
+-- the ends before index `end-index` were written
 abbrev pub invariant-loop-end : goal.invariant-loop-end
 invariant-loop-end g l =
     let state = g.W.Sink.state in

@@ -5,7 +5,7 @@ use Rattle.tool.specs.Queries.{listed, run_numbers}
 use Rattle.tool.proofs.ListingLemmas.{AreWritten}
 use Rattle.tool.proofs.listings.write_each_run.Given as goal
 
--- all items before the remaining ones were written
+-- all runs that the iterator has yielded were written
 abbrev pub invariant-loop-run : goal.invariant-loop-run
 invariant-loop-run g l =
     let state = g.W.Sink.state in

@@ -5,7 +5,7 @@ use Rattle.tool.specs.Queries.{listed, span_numbers}
 use Rattle.tool.proofs.ListingLemmas.{AreWritten}
 use Rattle.tool.proofs.listings.write_each_span.Given as goal
 
--- all items before the remaining ones were written
+-- all spans that the iterator has yielded were written
 abbrev pub invariant-loop-span : goal.invariant-loop-span
 invariant-loop-span g l =
     let state = g.W.Sink.state in

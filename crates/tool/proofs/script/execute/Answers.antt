@@ -35,7 +35,7 @@ returns-clause-err g c =
     (g.W.Sink.state c.args.writer.now) (g.W.Sink.state c.write_answer.new.writer) c.write_answer.result
     c.write_answer.ensures.err
 
--- an allocation failed
+-- if an allocation failed, the command was not refused, and nothing was changed
 pub returns-then-lacks_memory-clause-err : goal.returns-then-lacks_memory-clause-err
 returns-then-lacks_memory-clause-err g c =
     let rules = rules_of c.args.session.now.engine in

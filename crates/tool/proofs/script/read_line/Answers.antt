@@ -59,7 +59,7 @@ returns-clause-ok c =
     short ∙ ap (λ (b : Bool). if b then command_in queries (chars line) else None) valid) in
     subst (λ (o : Option Command). IfOk c.read_command.result (λ command. option_map (command_of (string_bytes c.read_command.new.inserted)) command ≡ o)) is c.read_command.ensures.ok
 
--- a line that contains an inserted text is not empty
+-- a line is not empty if not all characters of its inserted text were kept
 piece_some : (text kept : List ℕ) → LacksInserted text kept → 0 < length text
 piece_some [] kept has = let none = has.word in cc none
 piece_some (c ∷ text) kept has = omega arith

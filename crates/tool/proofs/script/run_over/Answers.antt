@@ -4,7 +4,7 @@ use Rattle.tool.specs.Reading.{IsAt}
 use Rattle.tool.proofs.ScriptStepLemmas.{at_start, ends_at_once, script_stepped}
 use Rattle.tool.proofs.script.run_over.Goals as goal
 
--- an allocation failed before anything was read
+-- if an allocation failed before anything was read, the run ends with `Memory`
 pub returns-in_default-clause-run : goal.returns-in_default-clause-run
 returns-in_default-clause-run g c = ends_at_once (rules_of c.args.session.now.engine) c.args.options.now c.args.session.now (g.R.Source.state c.args.reader.now) (g.W.Sink.state c.args.writer.now)
 

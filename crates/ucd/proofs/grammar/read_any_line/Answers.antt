@@ -10,8 +10,8 @@ use Rattle.ucd.proofs.grammar.read_any_line.Goals as goal
 all_ascii : (bytes : List ℕ) → ((i : ℕ) → get_or bytes i 0 < 128) → list_all is_ascii bytes ≡ true
 all_ascii bytes low = list_all-from_AllPass is_ascii bytes (All-from_get_or (λ b. is_ascii b ≡ true) bytes 0 (λ i lt. lt-ltb _ _ (low i)))
 
--- If the part of a line before its comment is ASCII, the line is parsed from the fields of that part. It has no entry
--- if that part is blank.
+-- If the part of a line before its comment is ASCII, the line is parsed from the fields of that part. The
+-- line has no entry if that part is blank.
 reads : {V : Type 0} (form : Form V) (line front content : List ℕ) → front ≡ before_comment line
     → ((i : ℕ) → get_or front i 0 < 128) → content ≡ trimmed (is_one_of blanks) front → reading_of form line
     ≡ (if length content == 0 then Ok None else by_fields form (fields_of content))

@@ -5,7 +5,7 @@ use Rattle.ucd.specs.declared.grammar.Entry.{Entry}
 use Rattle.ucd.proofs.rising.are_rising.Goals as goal
 use Rattle.ucd.proofs.rising.are_rising.Goals.{then-entry-low-via-then-entry-low, then-entry-low-via-else-entry-low+then-entry, then-entry-low-via-else-entry-low+else-entry+then-entry-gt-LAST_CHARACTER}
 
--- the entries from an index on begin with the entry read there
+-- `drop k es` begins with the entry at index k
 entries_from : {V : Type 0} (es : List (Entry V)) (k : ℕ) (e : Entry V) → k < length es → e ≡ get_or es k e → drop k es ≡ e ∷ drop (k + 1) es
 entries_from es k e lt is = drop_more es k e lt ∙ ap (λ x. x ∷ drop (k + 1) es) (sym is)
 

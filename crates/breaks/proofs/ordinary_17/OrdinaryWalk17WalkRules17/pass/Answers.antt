@@ -5,7 +5,7 @@ use Rattle.breaks.proofs.OrdinaryLemmas17.{begun_ordinary_17, stays_ordinary_17}
 use Rattle.breaks.proofs.PassLemmas17.{row_within_17}
 use Rattle.breaks.proofs.ordinary_17.OrdinaryWalk17WalkRules17.pass.Goals as goal
 
--- a mark, so the character begins a base
+-- the outcome is a mark, so the character begins a base
 pub returns-then-outcome-le-MUST-clause-passes : goal.returns-then-outcome-le-MUST-clause-passes
 returns-then-outcome-le-MUST-clause-passes c =
     λ rules. begun_ordinary_17 c.args.self.now c.begin.new.self _ _ _ _ c.args.next c.symbol_17-symbol.ensures.below c.symbol_17-symbol.ensures.shown c.next_row-self.ensures

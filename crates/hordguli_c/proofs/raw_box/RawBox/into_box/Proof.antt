@@ -1,4 +1,4 @@
--- `into_box` passes what the parts own to `from_raw`.
+-- `into_box` passes the ownership held by the parts to `from_raw`.
 use mathlib.Core.Path.{◌≡◌, refl, sym, subst, ap}
 use mathlib.Core.List.{List, [], ◌∷◌, ◌++◌}
 use lib.Dec.{T}

@@ -1,4 +1,4 @@
--- `into_raw` compares the handle's pointer with null, and returns what the handle owns.
+-- `into_raw` compares the handle's pointer with null, and returns the object that the handle owns, if any.
 use Rattle.std.proofs.Common.{List, [], ◌∷◌, ◌++◌, refl, sym, ap, ◌∙◌, subst, lit<}
 use mir.Val.{Val, vptr, vcons, vnil}
 use base.Logic.{SProp, ent, emp, id⊢}

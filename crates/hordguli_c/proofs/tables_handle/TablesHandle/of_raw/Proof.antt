@@ -1,4 +1,4 @@
--- `of_raw` stores a pointer, with what the pointer owns, in the handle.
+-- `of_raw` stores a pointer in the handle, which then owns what the pointer owned.
 use Rattle.std.proofs.Common.{List, [], ◌∷◌, ◌++◌, refl, sym, subst}
 use mir.Val.{Val}
 use base.Logic.{ent, emp, id⊢}

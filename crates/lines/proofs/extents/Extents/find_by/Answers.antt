@@ -14,7 +14,7 @@ use Rattle.lines.proofs.SizedLemmas.{sized_alike}
 use Rattle.lines.proofs.ShowLemmas.{length-shown_from, taken_shown}
 use Rattle.lines.proofs.extents.Extents.find_by.Goals as goal
 
--- the extents in a list that was filled with the starts and the shown parts
+-- a list that consists of starts and shown parts is unpacked to these starts and shown parts
 starts_in : (items starts : List ℕ) (parts : List Shown) → length parts ≡ length starts → items ≡ starts ++ in_pairs parts → (unpacked items).starts ≡ starts
 starts_in items starts parts same is = ap (λ (e : LineExtents). e.starts) (ap unpacked is ∙ unpacked_is starts parts same)
 

@@ -19,7 +19,7 @@ use Rattle.lines.proofs.WriteLemmas.{pieces-more, pieces-stopped, same_fault}
 use Rattle.lines.proofs.WrittenLemmas.{length-lines_shown, piece_is}
 use Rattle.lines.proofs.printing.writing.write_each.Goals as goal
 
--- the bytes of a line are those with its part of the paragraph's cluster ends
+-- the bytes of a line do not change if its cluster ends are read from the paragraph's cluster ends
 part_bytes : (text : Text) (form : Form) (levels : List ℕ) (start end k : ℕ) (part : Shown) (ends : List Bool) → HasEnds text → ends ≡ slice_range text.ends.now start end
     → line_bytes form.width form.print.now (visual_shown text.rules.tables.now text.rules.options text.base (k == 0) (slice_range text.characters.now start end) ends
     (slice_range levels start end) part)

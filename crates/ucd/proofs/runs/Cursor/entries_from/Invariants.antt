@@ -3,7 +3,8 @@ use Rattle.ucd.specs.Entries.{value_at}
 use Rattle.ucd.specs.Rising.{AreRisingFrom}
 use Rattle.ucd.proofs.runs.Cursor.entries_from.Given as goal
 
--- the remaining entries are in ascending order, and assign the same values to the code points from `point` on
+-- the remaining entries are in ascending order, and assign the same values as all entries to the code points
+-- from `point` on
 abbrev pub invariant-loop-first : goal.invariant-loop-first
 invariant-loop-first g l = record {
   rising : AreRisingFrom 0 l.left;

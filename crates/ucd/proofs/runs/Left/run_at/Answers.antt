@@ -2,7 +2,7 @@ use Rattle.std.proofs.Common.{ℕ, sym, subst, ◌∙◌}
 use Rattle.ucd.specs.Runs.{EndsFrom}
 use Rattle.ucd.proofs.runs.Left.run_at.Goals as goal
 
--- the runs so far start where this one does
+-- each intermediate run starts at `start`
 pub applied-run-requires-2-clause-ends : goal.applied-run-requires-2-clause-ends
 applied-run-requires-2-clause-ends c = subst (λ (start : ℕ). EndsFrom start c.args.self.now.bidi_classes) (sym (c.applied-run.ensures.start)) c.requires.ends.bidi_classes
 
