@@ -2,9 +2,9 @@
  * same name, but relies on hordguli.c to check that pointers are not NULL, widths are below 65,536, and arrays do not
  * overlap.
  *
- * The parameters are named as in the crate, which tests/c/exports checks. `n` is the index of a line. An array is a
- * pointer and a length. The pointer is never NULL and is aligned for its type, even if the length is 0. A status is one
- * of the numbers 0 to 12 in hordguli.h, or 16. */
+ * tests/c/exports checks that the parameters have the same names as in the crate. `n` is the index of a line.
+ * An array is a pointer and a length. The pointer is never NULL and is aligned for its type, even if the
+ * length is 0. A status is one of the numbers 0 to 12 in hordguli.h, or 16. */
 #ifndef HORDGULI_CORE_H
 #define HORDGULI_CORE_H
 
@@ -24,7 +24,7 @@ uint32_t hordguli_core_tables_open_image(hordguli_tables *tables, const uint8_t 
 uint32_t hordguli_core_tables_version(hordguli_tables *tables, uint32_t *version);
 void hordguli_core_tables_close(hordguli_tables *tables);
 
-/* The images of both versions, which tools/build_c makes from ucd/tables.image and ucd-17.0/tables.image. */
+/* The contents of ucd/tables.image and ucd-17.0/tables.image, as tools/build_c compiles them. */
 extern const uint8_t hordguli_image_15_0[];
 extern const size_t hordguli_image_15_0_length;
 extern const uint8_t hordguli_image_17_0[];
@@ -143,7 +143,7 @@ uint32_t hordguli_core_reasons(hordguli_tables *tables, uint32_t direction, cons
 uint32_t hordguli_core_break_reasons(hordguli_tables *tables, uint32_t options, const uint32_t *characters,
                                      size_t characters_length, hordguli_break_reason *records, size_t records_length);
 
-/* If `records_length` is less than `characters_length`, returns NO_ROOM after CLOSED. */
+/* Also returns NO_ROOM, checked after CLOSED, if `records_length` is less than `characters_length`. */
 uint32_t hordguli_core_properties(hordguli_tables *tables, const uint32_t *characters, size_t characters_length,
                                   hordguli_character *records, size_t records_length);
 

@@ -10,7 +10,7 @@
 
 #define PUBLIC __attribute__((visibility("default")))
 
-/* In the order of hordguli.h. */
+/* The names of the files, by their indices in hordguli.h. */
 static const char *const names[HORDGULI_TABLE_FILES] = {
     "DerivedBidiClass.txt",       "BidiBrackets.txt",   "BidiMirroring.txt", "LineBreak.txt",
     "DerivedGeneralCategory.txt", "EastAsianWidth.txt", "emoji-data.txt",
@@ -42,7 +42,7 @@ static hordguli_status read_all(int file, content *into) {
     }
 }
 
-/* Sets `*why` to the error number on UNREAD_FILE. `free` and `close` may change `errno`. */
+/* On UNREAD_FILE, sets `*why` to the error number, since `free` and `close` may change `errno`. */
 static hordguli_status read_file(const char *folder, const char *name, content *into, int *why) {
     size_t length = strlen(folder);
     char *path = malloc(length + strlen(name) + 2);

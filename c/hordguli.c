@@ -24,7 +24,7 @@ static inline int overlap_2(part a, part b) {
 
 static inline int overlap_3(part a, part b, part c) { return overlap_2(a, b) || overlap_2(a, c) || overlap_2(b, c); }
 
-/* Does the same as overlap_2 for any number of parts. */
+/* Returns whether any two of the parts overlap, as overlap_2 does for two. */
 static int overlap(const part *parts, size_t count) {
     for (size_t i = 0; i < count; i++) {
         if (parts[i].size == 0) continue;
@@ -50,7 +50,7 @@ static size_t times(size_t count, size_t size) { return count > SIZE_MAX / size 
 #define OR(pointer, other) ((pointer) == NULL ? &(other) : (pointer))
 #define LENGTH(pointer, count) ((pointer) == NULL ? 0 : (count))
 
-/* An array to pass instead of NULL if there are no characters or advances. */
+/* The array that is passed instead of NULL if there are no characters or advances. */
 static const uint32_t no_numbers[1] = {0};
 #define NUMBERS(pointer) ((pointer) == NULL ? no_numbers : (pointer))
 

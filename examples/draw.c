@@ -8,8 +8,8 @@
  *
  * HarfBuzz shapes each directional run: it joins letters, places marks and mirrors brackets. So HarfBuzz receives the
  * characters unmirrored and in logical order. A measured session has the advance of each character, in 1/64 pixel, and
- * finds the lines, the caret and the selection. Cairo draws the glyphs. A letter is drawn with the first FONT that has
- * it.
+ * finds the lines, the caret and the selection. Cairo draws the glyphs. A letter is drawn in the first FONT
+ * that has it.
  *
  * The characters from position FROM up to TO are selected. The caret is after the last of them, or before FROM if there
  * are none. With --list, the program prints what it measures and draws. */
@@ -40,7 +40,7 @@ static uint8_t levels[CHARACTERS];
 static size_t font_of[CHARACTERS];
 static hb_script_t script_of[CHARACTERS];
 
-/* The advance of each character, and whether its glyph may change if a line begins with it */
+/* The advance of each character, and whether glyphs may change if a line begins with the character */
 static uint32_t advances[CHARACTERS];
 static int is_unsafe[CHARACTERS + 1];
 
@@ -115,8 +115,8 @@ static int is_one_part(size_t first, size_t second) {
     return font_of[first] == font_of[second] && script_of[first] == script_of[second] && levels[first] == levels[second];
 }
 
-/* Shapes the characters from `from` up to `to`. HarfBuzz also sees the rest of the paragraph, since letters join across
- * the ends of a part. */
+/* Shapes the characters from `from` up to `to`. HarfBuzz also gets the rest of the paragraph as context,
+ * since letters join across the ends of a part. */
 static hb_buffer_t *shaped(size_t from, size_t to, uint32_t level) {
     hb_buffer_t *buffer = hb_buffer_create();
     hb_buffer_add_utf32(buffer, characters, (int)count, (unsigned)from, (int)(to - from));
@@ -126,9 +126,9 @@ static hb_buffer_t *shaped(size_t from, size_t to, uint32_t level) {
     return buffer;
 }
 
-/* Finds the advances of the characters from `from` up to `to`. The first character of a HarfBuzz cluster has the
- * advance of its glyphs, and the others have advance 0. A line must not begin inside a cluster, or where HarfBuzz marks
- * a break as unsafe. */
+/* Finds the advances of the characters from `from` up to `to`. The first character of a HarfBuzz cluster gets
+ * the advance of the cluster's glyphs, and the others get advance 0. A line must not begin inside a cluster,
+ * or where HarfBuzz marks a break as unsafe. */
 static void find_advances(size_t from, size_t to) {
     for (size_t first = from, end; first < to; first = end) {
         for (end = first + 1; end < to && is_one_part(end - 1, end);) end++;
@@ -164,7 +164,7 @@ static void list_advances(void) {
     for (size_t k = 0; is_listed && k < count; k++) printf("advance %zu %u\n", start + k, advances[k]);
 }
 
-/* Measures paragraphs: after an edit, the new paragraphs in its damage. */
+/* Measures some paragraphs. After an edit, these must be the new paragraphs in its damage. */
 static void measure(size_t first, size_t paragraphs) {
     for (size_t k = first; k < first + paragraphs; k++) {
         hordguli_paragraph_info info;
@@ -181,7 +181,7 @@ static void measure(size_t first, size_t paragraphs) {
 
 /* ---- Drawing ---- */
 
-/* Adds the glyphs of some characters at `x`, and returns their right edge. */
+/* Shapes some characters, adds their glyphs at `x`, and returns the right edge of the last one. */
 static long shape_part(size_t from, size_t to, uint32_t level, long x) {
     unsigned found;
     hb_buffer_t *buffer = shaped(from, to, level);
@@ -203,7 +203,7 @@ static long shape_part(size_t from, size_t to, uint32_t level, long x) {
     return x;
 }
 
-/* Shapes a run in parts, from left to right. Returns the right edge. */
+/* Shapes a run in parts, from left to right, starting at `x`. Returns its right edge. */
 static long shape_run(size_t begin, size_t end, uint32_t level, long x) {
     while (begin < end) {
         size_t from = begin, to = end;
@@ -242,7 +242,7 @@ static void draw_glyphs(cairo_t *picture, size_t line, double left, double top) 
     }
 }
 
-/* Draws the selected part of a line. Where the direction changes, it can have several spans. */
+/* Draws the selected part of a line. It can have several spans if the direction changes in the line. */
 static void draw_selection(cairo_t *picture, size_t line, double left, double top, size_t from, size_t to) {
     hordguli_span spans[SPANS];
     size_t span_count;

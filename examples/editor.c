@@ -3,8 +3,8 @@
  *     cc -o editor examples/editor.c $(pkg-config --cflags --libs hordguli)
  *
  * The editor knows nothing about directions, line breaks or columns. A session as wide as the window holds the text.
- * Keys edit the session, which says which lines to redraw. The session also moves the caret, and finds words, grapheme
- * clusters and the columns of a selection.
+ * Keys edit the session, which returns the lines to redraw. The session also moves the caret, and finds
+ * words, grapheme clusters and the columns of a selection.
  *
  * Keys: arrows, Home and End, Page Up and Page Down, with Ctrl for words and with Shift to select; Backspace, Delete,
  * Ctrl-S (save) and Ctrl-Q (quit). */
@@ -58,7 +58,8 @@ static hordguli_counts counts(void) {
     return found;
 }
 
-/* Returns whether a call has succeeded, and records why not. Going past an end of the text is not an error. */
+/* Returns whether a call has succeeded, and records the error if not. Does not record OUT_OF_RANGE, which
+ * means that the caret would leave the text. */
 static int succeeds(hordguli_status status) {
     if (status != HORDGULI_OK && status != HORDGULI_OUT_OF_RANGE) note = hordguli_status_text(status);
     return status == HORDGULI_OK;
@@ -81,13 +82,13 @@ static hordguli_caret caret_place(void) {
     return place;
 }
 
-/* Moves the caret to a screen column of a line, if there is such a line. */
+/* Moves the caret to a screen column of a line, if the line exists. */
 static void go(size_t line, size_t column) {
     size_t left = left_of(line);
     succeeds(hordguli_edge_at(&session, line, column > left ? column - left : 0, &caret));
 }
 
-/* Moves the caret to the left or right. At the end of a line, moves it to the previous or next line. */
+/* Moves the caret to the left or right, from the left or right end of a line to the line before or after. */
 static void sideways(uint32_t direction) {
     size_t line = caret_place().line;
     uint32_t moved = 1;
@@ -105,7 +106,7 @@ static void by_word(uint32_t direction) {
     caret.side = word.kind && !is_back ? HORDGULI_AFTER : HORDGULI_BEFORE;
 }
 
-/* Returns the selected characters. */
+/* Returns the range of the selected characters. */
 static hordguli_cluster selected(void) {
     size_t a = caret.pos, b = anchor.pos;
     return (hordguli_cluster){a < b ? a : b, a < b ? b : a};
@@ -113,7 +114,7 @@ static hordguli_cluster selected(void) {
 
 /* ---- The screen ---- */
 
-/* Replaces rows of the screen with new ones, and moves the rows below. */
+/* Replaces `out` rows of the screen with `in` new ones, and moves the rows below. */
 static void shift(size_t row, size_t out, size_t in) {
     if (out > height - row) out = height - row;
     if (in > height - row) in = height - row;
@@ -155,7 +156,7 @@ static void scroll_to(size_t line) {
 }
 
 /* Draws a line, with its selection in reverse video. Leaves out control characters, which a terminal would execute.
- * Tabs are already spaces, one for each of their columns. */
+ * The session has already written tabs as spaces, one for each of their columns. */
 static void draw_line(size_t row, size_t line) {
     static size_t columns[MOST];
     static hordguli_span spans[MOST];
@@ -228,8 +229,8 @@ static int is_after_line(size_t pos) {
            last == 0x2029;
 }
 
-/* Replaces characters, and puts the caret on a side of the end of the new text: on `side`, or if a line or paragraph
- * starts there, before the character that follows. */
+/* Replaces characters, and puts the caret at the end of the new text: on `side` of it or, if a line or
+ * paragraph starts there, before the character that follows. */
 static void replace(hordguli_cluster old, const char *text, size_t length, uint32_t side) {
     hordguli_changed changed;
     size_t count;
@@ -242,8 +243,8 @@ static void replace(hordguli_cluster old, const char *text, size_t length, uint3
     if (is_after_line(caret.pos)) caret.side = anchor.side = HORDGULI_BEFORE;
 }
 
-/* Deletes the selection, or else the grapheme cluster that contains a character. For Backspace, this is the character
- * before the caret. */
+/* Deletes the selection or, if there is none, the grapheme cluster that contains the character at `at`. For
+ * Backspace, this is the character before the caret. */
 static void take_out(size_t at) {
     hordguli_cluster old = selected();
     if (old.start == old.end && !succeeds(hordguli_cluster_at(&session, at, &old))) return;
@@ -336,7 +337,7 @@ static void on_resize(int signal) {
     resized = 1;
 }
 
-/* Reads a file. A missing file is read as an empty text. */
+/* Returns the text of the file, which is empty if the file does not exist. */
 static char *read_text(size_t *length) {
     FILE *file = fopen(path, "rb");
     size_t room = 1 << 16;

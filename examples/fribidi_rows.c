@@ -1,7 +1,8 @@
-/* Prints a text in the rows of a terminal, as rows.c does, with FriBidi's functions: fribidi_rows COLUMNS < TEXT
+/* Prints a text in the rows of a terminal, as rows.c does, but with FriBidi's functions: fribidi_rows COLUMNS
+ * < TEXT
  *
- * A terminal breaks a line where it is full, not between words. So the levels are found for the whole paragraph, and
- * then each row is reordered separately. The functions come from the library that is linked first:
+ * A terminal ends a row when it is full, even inside a word. So the levels are found for the whole paragraph,
+ * and then each row is reordered separately. The functions come from the library that is linked first:
  *
  *     cc -o fribidi_rows examples/fribidi_rows.c $(pkg-config --cflags fribidi) \
  *         -Lbin -Wl,-rpath,$PWD/bin -lhordguli_fribidi -lfribidi
@@ -13,7 +14,7 @@
 #include <stdlib.h>
 #include <wchar.h>
 
-/* A paragraph, with the properties of its characters. */
+/* A paragraph, the properties of its characters, and a row in visual order */
 static FriBidiChar *text, *visual;
 static FriBidiCharType *types;
 static FriBidiBracketType *brackets;

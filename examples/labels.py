@@ -26,7 +26,7 @@ def label(axes, names):
     def measure(paragraph):
         font = font_manager.get_font(font_manager.findfont(font_manager.FontProperties()))
         font.set_size(size, resolution)
-        # (an advance has 16 bits after the point)
+        # (the advances are fixed-point numbers with 16 fractional bits)
         return [font.load_char(ord(c), ft2font.LOAD_NO_HINTING).linearHoriAdvance * UNITS >> 16 for c in paragraph.text]
 
     lines = ["\n".join(hordguli.wrap(reshape(name), width, measure=measure)) for name in names]

@@ -2,8 +2,8 @@
  *
  *     cc -o rows examples/rows.c $(pkg-config --cflags --libs hordguli)
  *
- * A terminal ends a row where it is full, not between words. So levels are found for the whole paragraph, and then each
- * row is put into visual order separately. fribidi_rows.c does the same with FriBidi's functions. */
+ * A terminal ends a row when it is full, even inside a word. So levels are found for the whole paragraph, and
+ * then each row is put into visual order by itself. fribidi_rows.c does this with FriBidi's functions. */
 #define _XOPEN_SOURCE 700
 #include <hordguli.h>
 #include <locale.h>

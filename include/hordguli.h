@@ -29,21 +29,22 @@
  * A paragraph ends after a separator: U+000A, U+000D, U+001C to U+001E, U+0085 or U+2029. The pair U+000D U+000A is one
  * separator. A separator at the end of the text starts no new paragraph. An empty text has no paragraphs and no lines.
  *
- * A line ends at the end of its paragraph, after U+000B, U+000C or U+2028, or at a break opportunity (UAX #14). If none
- * of these fits the width, the line ends inside a word, at the last grapheme cluster boundary that fits. If no such
- * boundary fits either, the line ends at the first boundary, and is wider than the width. The characters after it are
- * on the next line, even if there is only a separator: an emoji family of 6 columns and U+000A are two lines at width
- * 5.
+ * A line ends at the end of its paragraph, after U+000B, U+000C or U+2028, or at a break opportunity
+ * (UAX #14). If none of these fits the width, the line ends inside a word, at the last grapheme cluster
+ * boundary that fits. If no such boundary fits either, the line ends at the first boundary, and is wider than
+ * the width. The characters after this boundary are on the next line, even if there is only a separator: at
+ * width 5, an emoji family of 6 columns and U+000A are two lines.
  *
  * The tail of a line is all U+0020, U+000A to U+000D, U+0085, U+2028 and U+2029 at its end. The tail is not shown. The
  * rest of the line is its shown part, to which HORDGULI_SHOW_SPACES adds spaces from the tail.
  *
  * COLUMNS
  *
- * A column is a terminal cell. The width of a line, in columns, is the sum of the widths of its shown characters. Some
- * terminals draw a grapheme cluster, such as an emoji family, narrower than this sum. Widths follow Unicode 18.0.
- * Characters of ambiguous East Asian width have width 1. Control characters have width 0 and are written unchanged,
- * including tabs without HORDGULI_TAB_WIDTH. A program that writes to a terminal must remove or replace them.
+ * A column is a terminal cell. The width of a line, in columns, is the sum of the widths of its shown
+ * characters. Some terminals draw a grapheme cluster, such as an emoji family, narrower than this sum. Widths
+ * follow Unicode 18.0. Characters of ambiguous East Asian width have width 1. Control characters have width 0
+ * and are written unchanged. This includes tabs, unless HORDGULI_TAB_WIDTH is set. A program that writes to a
+ * terminal must remove or replace control characters.
  *
  * MEASURED TEXT
  *
@@ -52,20 +53,20 @@
  * lines, are in this unit. A measured session differs from other sessions as follows:
  *   - An inserted character has advance 0. All other characters keep their advances, even if paragraphs are joined or
  *     split. `hordguli_set_advances` sets them.
- *   - The advances of a paragraph add up to at most 4,294,967,295. An edit that would exceed this returns
+ *   - The advances of a paragraph add up to at most 4,294,967,295. A call that would exceed this sum returns
  *     PARAGRAPH_TOO_LONG.
  *   - With HORDGULI_TAB_WIDTH, a tab moves to the next multiple of its own advance, or stays where it is if its advance
  *     is 0. The tab is written unchanged.
- *   - Lines are written without padding. `hordguli_line` stores the padding that aligns a line right.
+ *   - Lines are written without padding. `hordguli_line` stores the padding that a right-aligned line needs.
  *
- * For a ligature, or another glyph for several characters, set its advance at the first character, and 0 at the others.
- * Alternatively, divide the advance among the characters, so that a caret can be inside a ligature of several grapheme
- * clusters.
+ * For a ligature, or another glyph for several characters, set the advance of the first character to that of
+ * the glyph, and the others to 0. Alternatively, divide the advance among the characters, so that a caret can
+ * be inside a ligature of several grapheme clusters.
  *
  * ERRORS
  *
- * A function that can fail returns a status. HORDGULI_OK is 0. On any other status, nothing has changed, not even
- * output parameters, unless documented otherwise.
+ * A function that can fail returns a status. HORDGULI_OK is 0. A call with any other status has changed
+ * nothing, not even output parameters, unless documented otherwise.
  *
  * `Errors` lists the other statuses of a function, without `HORDGULI_`, in the order in which they are checked. The
  * first that applies is returned. NO_MEMORY comes last, unless documented otherwise. A function that does not list
@@ -89,12 +90,12 @@
  *     `hordguli_row_runs`, `hordguli_spans`, `hordguli_line_clusters`, `hordguli_clusters` and `hordguli_script_runs`
  *     write one array, and store its size in their last parameter. If the array is too small, they return NO_ROOM,
  *     leave it unchanged, and store the required size. So a call with NULL and capacity 0 requests the size.
- *   - `hordguli_line`, `hordguli_paragraph`, `hordguli_row` and `hordguli_decode` write several arrays. They skip
- *     arrays that are NULL. If another array is too small, they return NO_ROOM. If all arrays are NULL, the call
- *     succeeds with any capacity. In both cases, `hordguli_line` and `hordguli_paragraph` store the size in `*info`,
- *     and `hordguli_decode` in `*count`.
- *   - `hordguli_levels`, `hordguli_marks`, `hordguli_reasons` and `hordguli_break_reasons` need an array of `count`
- *     elements. NULL is an error.
+ *   - `hordguli_line`, `hordguli_paragraph`, `hordguli_row` and `hordguli_decode` write several arrays. They
+ *     skip arrays that are NULL. If any other array is too small, they return NO_ROOM. If all arrays are
+ *     NULL, the call succeeds with any capacity. In both cases, `hordguli_line` and `hordguli_paragraph`
+ *     store the size in `*info`, and `hordguli_decode` in `*count`.
+ *   - `hordguli_levels`, `hordguli_marks`, `hordguli_reasons` and `hordguli_break_reasons` need an array of
+ *     `count` elements. NULL returns NO_ROOM, unless `count` is 0.
  *
  * Call a function of the first kind in a loop, until the buffer is large enough. Start with a NULL buffer, and keep the
  * buffer and its capacity for the next call.
@@ -106,32 +107,34 @@
  *         capacity = length;
  *     }
  *
- * If there was nothing to write, `buffer` may still be NULL. Do not pass it to functions such as `fwrite` then.
+ * If there was nothing to write, `buffer` may still be NULL. In that case, do not pass it to functions such
+ * as `fwrite`.
  *
  * THREADS, SIGNALS AND FORK
  *
- *   - Use a handle in one call at a time, even if the calls only read. A call moves the object out of its handle and
- *     back. The proof of the library depends on this, so handles are not `const`.
+ *   - Use a handle in one call at a time, even if the calls only read. Every call moves the object out of its
+ *     handle and back, as the proof of the library requires. So no function takes a `const` handle.
  *   - Different handles may be used in different threads at the same time. Sessions and tables share only memory that
  *     is never written, and an atomic reference count.
- *   - The same handle may be used in different threads, one after another. Hand it over with a lock, through a queue,
- *     or by creating or joining a thread. So a worker may lay out a long text and pass its session on, and another
- *     thread may close the session. Nothing in the library depends on the thread: it has no global or thread-local
- *     variables.
+ *   - The same handle may be used in different threads, one after another. Hand it over with a lock, through
+ *     a queue, or by creating or joining a thread. For example, one thread may open a session on a long text,
+ *     and another may edit and close it. No call depends on the thread that makes it: the library has no
+ *     global or thread-local variables.
  *   - Do not call the library from a signal handler that can interrupt the library or malloc.
  *   - After `fork`, the child has its own handles. The child must not use a handle that another thread was using during
  *     the fork.
  *
  * MEMORY
  *
- * Memory is managed with malloc, realloc and free. The library keeps no pointers from the caller after a call, writes
- * to no stream, calls no callbacks, and has no state outside its handles. The strings it returns are static; do not
- * free them.
+ * Memory is managed with malloc, realloc and free. After a call, the library keeps no pointers to the
+ * caller's memory. It writes to no stream, calls no callbacks, and has no state outside its handles. The
+ * strings it returns are static; do not free them.
  *
- * A session keeps 0.1 KB for itself, 0.5 KB for each paragraph, 12 bytes for each further line of a paragraph, and 19
- * bytes for each character. From its first edit on, its buffers keep 5 KB more, and up to 26 bytes for each character
- * of its longest paragraph. Opening a session uses buffers that the tables' handle keeps. Tables keep 112 KB, which
- * their sessions share. These numbers were measured with `bench/memory` in the sources and glibc's malloc. */
+ * A session keeps 0.1 KB for itself, 0.5 KB for each paragraph, 12 bytes for each further line of a
+ * paragraph, and 19 bytes for each character. From its first edit on, it also keeps buffers: 5 KB, and up to
+ * 26 bytes for each character of its longest paragraph. Opening a session uses buffers that the tables'
+ * handle keeps. Tables keep 112 KB, which their sessions share. These numbers were measured with
+ * `bench/memory` in the sources and glibc's malloc. */
 #ifndef HORDGULI_H
 #define HORDGULI_H
 
@@ -149,7 +152,7 @@ typedef int32_t hordguli_status;
 
 /* Success. */
 #define HORDGULI_OK 0
-/* A position, range, line or paragraph is past the end. */
+/* A position, range, line or paragraph is past the end, or a level or a count is too large. */
 #define HORDGULI_OUT_OF_RANGE 1
 /* The width is 0 or greater than 65,535; for a measured session, greater than 2,147,483,647. */
 #define HORDGULI_WIDTH_OUT_OF_RANGE 2
@@ -159,9 +162,9 @@ typedef int32_t hordguli_status;
 #define HORDGULI_PARAGRAPH_TOO_LONG 4
 /* Out of memory. */
 #define HORDGULI_NO_MEMORY 5
-/* A table file or an image is malformed. `hordguli_table_fault` says where and why. */
+/* A table file or an image is malformed. The parameter `fault` receives the line and the cause. */
 #define HORDGULI_TABLE_FAULT 6
-/* The text is not valid UTF-8. `hordguli_valid_utf8` says where. */
+/* The text is not valid UTF-8. Call `hordguli_valid_utf8` to find the first invalid byte. */
 #define HORDGULI_NOT_UTF8 7
 /* A number is not a Unicode scalar value. */
 #define HORDGULI_NOT_A_CHARACTER 8
@@ -169,7 +172,7 @@ typedef int32_t hordguli_status;
 #define HORDGULI_CLOSED 9
 /* The handle to open is already open. */
 #define HORDGULI_ALREADY_OPEN 10
-/* An option, a print flag or the Unicode version is unknown, or the function does not accept it. */
+/* An option, print flag, side, direction or Unicode version is unknown or not accepted by the function. */
 #define HORDGULI_UNKNOWN_OPTION 11
 /* The capacity is too small (see BUFFERS). */
 #define HORDGULI_NO_ROOM 12
@@ -177,7 +180,7 @@ typedef int32_t hordguli_status;
 #define HORDGULI_NULL 13
 /* Arrays, output parameters or handles overlap. */
 #define HORDGULI_OVERLAP 14
-/* A table file cannot be read. `hordguli_table_fault` says which, and `errno` why. */
+/* A table file cannot be read. The parameter `fault` receives the file's index, and `errno` the error. */
 #define HORDGULI_UNREAD_FILE 15
 /* The session is not measured. Since 0.6. */
 #define HORDGULI_NOT_MEASURED 16
@@ -187,8 +190,9 @@ const char *hordguli_status_text(hordguli_status status);
 
 /* ---- Version ---- */
 
-/* The version of this header. A release that adds functions, options or statuses raises the minor version. `Since` in a
- * comment is the first version that has the function. A program can test for the functions of 0.6:
+/* The version of this header. A release that adds functions, options or statuses raises the minor version.
+ * `Since` in a comment is the first version with the function, option or status. A program can test for the
+ * functions of 0.6:
  *
  *     #if HORDGULI_VERSION_MAJOR > 0 || HORDGULI_VERSION_MINOR >= 6 */
 #define HORDGULI_VERSION_MAJOR 0
@@ -202,19 +206,20 @@ const char *hordguli_version(void);
  * `hordguli_tables_read` open. */
 const char *hordguli_unicode_version(void);
 
-/* Returns the Unicode version of column widths, grapheme clusters and scripts, such as "18.0". This version belongs to
- * the library, and does not depend on the tables.
+/* Returns the Unicode version of column widths, grapheme clusters and scripts, such as "18.0". This version
+ * is fixed in the library, and does not depend on the tables.
  * Since: 0.6. */
 const char *hordguli_width_unicode_version(void);
 
 /* ---- Session options ----
  *
- * Options are one base direction and any of the other options, combined by bitwise OR (`|`). Two different directions
- * are refused with UNKNOWN_OPTION. Without a direction, HORDGULI_WEAK_LTR applies. `hordguli_row` and `hordguli_marks`
- * accept no direction.
+ * Options are one base direction and any of the other options, combined by bitwise OR (`|`). If two different
+ * directions are combined, calls fail with UNKNOWN_OPTION. Without a direction, HORDGULI_WEAK_LTR applies.
+ * `hordguli_row`, `hordguli_marks` and `hordguli_break_reasons` accept no direction.
  *
- * Bits 0 and 1 are the direction. Bit 24 states that bit 0 is 0, and bit 25 that bit 1 is 0. Bits 24 and 25 may be left
- * out, so the numbers 0 to 3 are directions too. Bits 16 to 23 are reserved. */
+ * Bits 0 and 1 encode the direction. To detect combined directions, the constants also set bit 24 if bit 0 is
+ * 0, and bit 25 if bit 1 is 0. Bits 24 and 25 may be left out, so the numbers 0 to 3 are directions too. Bits
+ * 16 to 23 are reserved. */
 
 /* The direction of a paragraph's first strong character, or LTR if there is none. */
 #define HORDGULI_WEAK_LTR UINT32_C(0x3000000)
@@ -233,26 +238,30 @@ const char *hordguli_width_unicode_version(void);
 /* Does not break inside a number, such as `$(1,200)`. This replaces LB25 (UAX #14): there is no break inside a match of
  * `(PR|PO)? (OP|HY)? NU (NU|SY|IS)* (CL|CP)? (PR|PO)?`. It changes nothing with tables of Unicode 17.0. */
 #define HORDGULI_WHOLE_NUMBERS UINT32_C(16)
-/* Keeps adjacent characters of a grapheme cluster at the same odd level in logical order. By default they are reversed,
- * as is all RTL text. Use this option if the terminal draws clusters as units, such as emoji families, skin tones,
- * flags, and letters with marks. HORDGULI_REORDER_NSM then has no effect. For example, RLO `man ZWJ woman` is written
- * as RLO `woman ZWJ man` by default, which no terminal draws as one emoji. For a terminal that draws marks in the cell
- * of their base, but does not join emoji sequences, choose HORDGULI_REORDER_NSM instead. Since 0.6. */
+/* Keeps adjacent characters of a grapheme cluster at the same odd level in logical order. By default they are
+ * reversed, as is all RTL text. Use this option if the terminal draws each cluster, such as an emoji family,
+ * a flag or a letter with marks, as a unit. HORDGULI_REORDER_NSM then has no effect. For example, RLO `man
+ * ZWJ woman` is written as RLO `woman ZWJ man` by default, which no terminal draws as one emoji. For a
+ * terminal that draws marks in the cell of their base, but does not join emoji sequences, choose
+ * HORDGULI_REORDER_NSM instead. Since 0.6. */
 #define HORDGULI_REORDER_CLUSTERS UINT32_C(32)
-/* Shows the spaces at the start of a line's tail, as many as fit in the width. These spaces then have carets, hits and
- * spans. Lines end at the same places as without this option. A line that is wider than the width shows none of these
- * spaces, even with HORDGULI_NOBREAK. In RTL paragraphs, the spaces are to the left of the text. Since 0.6. */
+/* Shows the spaces at the start of a line's tail, as many as fit in the width. They then belong to the shown
+ * part, also for carets, hits and spans. Lines end at the same places as without this option. A line that is
+ * wider than the width shows none of these spaces, even with HORDGULI_NOBREAK. In RTL paragraphs, the spaces
+ * are to the left of the text. Since 0.6. */
 #define HORDGULI_SHOW_SPACES UINT32_C(64)
-/* Sets a tab stop every `n` columns, from 1 to 255. Columns are counted along each line in logical order. A tab (U+0009
- * of bidi class S) moves to the next stop, so it is 1 to `n` columns wide, and is written as spaces. In an RTL
- * paragraph, stops are counted from the right edge. A tab is not in the tail. A tab that is wider than the width gets a
- * line of its own. A greater `n` is refused with UNKNOWN_OPTION. `n` is evaluated twice. In a measured session, tabs
- * have their own stops (see MEASURED TEXT). Since 0.6. */
+/* Sets a tab stop every `n` columns. `n` is from 1 to 255. Columns are counted along each line in logical
+ * order. A tab (U+0009, if its bidi class is S) moves to the next stop, so it is 1 to `n` columns wide, and
+ * is written as spaces. In an RTL paragraph, stops are counted from the right edge. A tab is not in the tail.
+ * A tab that is wider than the width gets a line of its own. If `n` is greater than 255, calls fail with
+ * UNKNOWN_OPTION. The macro evaluates `n` twice. In a measured session, each tab has its own stops (see
+ * MEASURED TEXT). Since 0.6. */
 #define HORDGULI_TAB_WIDTH(n) ((uint32_t)(n) > 255 ? UINT32_C(1) << 16 : (uint32_t)(n) << 8)
-/* Ends paragraphs at LF, CR and CRLF only, as LSP, Git and most editors end lines: U+001C to U+001E, U+0085 and U+2029
- * have bidi class S (segment separator) where the tables give them B. U+0085 and U+2029 still end lines, not
- * paragraphs, as do VT, FF and U+2028. Each function with `options` or `direction` accepts this option. It does not
- * change the results of `hordguli_row`, `hordguli_marks` and `hordguli_break_reasons`. Since 0.6. */
+/* Ends paragraphs only at LF, CR and CRLF, where LSP, Git and most editors end lines. U+001C to U+001E,
+ * U+0085 and U+2029 have bidi class S (segment separator) if the tables give them class B. U+0085 and U+2029
+ * still end lines, not paragraphs, as do VT, FF and U+2028. Each function with `options` or `direction`
+ * accepts this option. It does not change the results of `hordguli_row`, `hordguli_marks` or
+ * `hordguli_break_reasons`. Since 0.6. */
 #define HORDGULI_LINE_SEPARATORS UINT32_C(0x4000000)
 
 /* ---- Print flags ----
@@ -311,7 +320,7 @@ typedef struct hordguli_session {
 #define HORDGULI_UNICODE_15_0 UINT32_C(0x000F0000)
 #define HORDGULI_UNICODE_17_0 UINT32_C(0x00110000)
 
-/* The number of files. */
+/* The number of files from which tables are read. */
 #define HORDGULI_TABLE_FILES 7
 
 /* The index of each file. In a fault, HORDGULI_IMAGE stands for an image. */
@@ -337,9 +346,9 @@ typedef struct hordguli_bytes {
 #define HORDGULI_CAUSE_VALUE 5         /* a value that the file does not allow */
 #define HORDGULI_CAUSE_NAMED_BEFORE 6  /* an earlier line names one of its characters */
 
-/* Why bytes are not an image. If several causes apply, the first in this order is reported, but TRUNCATED comes after
- * VERSION if the image has a whole header. */
-#define HORDGULI_CAUSE_TRUNCATED 8     /* fewer bytes than the header has or its counts state */
+/* Why bytes are not an image. If several causes apply, the first in this order is reported. But if the image
+ * has a whole header, TRUNCATED comes after VERSION. */
+#define HORDGULI_CAUSE_TRUNCATED 8     /* fewer bytes than a header has, or than its counts state */
 #define HORDGULI_CAUSE_MAGIC 9         /* the first bytes are not those of an image */
 #define HORDGULI_CAUSE_FORMAT 10       /* another version of the format */
 #define HORDGULI_CAUSE_VERSION 11      /* a version of Unicode that is not supported */
@@ -351,7 +360,8 @@ typedef struct hordguli_bytes {
 #define HORDGULI_CAUSE_MIRROR 17       /* an invalid mirror */
 #define HORDGULI_CAUSE_FLAGS 18        /* properties that do not agree with the brackets or the mirrors */
 
-/* The first malformed line, in the order of files and then of lines, or the fault in an image. */
+/* The first malformed line of the first malformed file, the fault in an image, or the file that cannot be
+ * read. */
 typedef struct hordguli_table_fault {
     size_t file;   /* 0 to 6, or HORDGULI_IMAGE */
     size_t line;   /* from 1; 0 for an image, or if the file cannot be read */
@@ -370,10 +380,10 @@ hordguli_status hordguli_tables_open_builtin(hordguli_tables *tables);
  * Since: 0.6. */
 hordguli_status hordguli_tables_open_builtin_version(hordguli_tables *tables, uint32_t version);
 
-/* Opens tables from a compiled image, such as the file `tables.image` that is installed with the table files. The
- * tables have the version of the image. `fault` may be NULL, and is set only on TABLE_FAULT. The causes up to
- * HORDGULI_CAUSE_ENTRY are ruled out before any memory is allocated. If memory runs out before a later cause is found,
- * NO_MEMORY is returned.
+/* Opens tables from a compiled image, such as the file `tables.image` that is installed with the table files.
+ * The image determines their Unicode version. `fault` may be NULL, and is set only on TABLE_FAULT. The causes
+ * up to HORDGULI_CAUSE_ENTRY are checked before any memory is allocated. If memory runs out before a later
+ * cause is found, NO_MEMORY is returned.
  * Errors: NULL, OVERLAP, ALREADY_OPEN, TABLE_FAULT, NO_MEMORY.
  * Cost: O(`length`), plus a pass over the code points of the pages that have separators, brackets or mirrors.
  * Since: 0.6. */
@@ -388,7 +398,7 @@ hordguli_status hordguli_tables_open_image(hordguli_tables *tables, const void *
 hordguli_status hordguli_tables_read(hordguli_tables *tables, const hordguli_bytes files[HORDGULI_TABLE_FILES],
                                      hordguli_table_fault *fault);
 
-/* Like `hordguli_tables_read`, with the files of `version`.
+/* Like `hordguli_tables_read`, but reads files of Unicode `version`.
  * Errors: NULL, OVERLAP, UNKNOWN_OPTION (another version), ALREADY_OPEN, TABLE_FAULT, NO_MEMORY.
  * Cost: as for `hordguli_tables_read`.
  * Since: 0.6. */
@@ -403,14 +413,14 @@ hordguli_status hordguli_tables_read_version(hordguli_tables *tables, uint32_t v
  * Cost: as for `hordguli_tables_read`. */
 hordguli_status hordguli_tables_open_folder(hordguli_tables *tables, const char *folder, hordguli_table_fault *fault);
 
-/* Like `hordguli_tables_open_folder`, with the files of `version`. Sets `errno` likewise.
+/* Like `hordguli_tables_open_folder`, but reads files of Unicode `version`. Sets `errno` in the same way.
  * Errors: NULL, OVERLAP, UNKNOWN_OPTION (another version), ALREADY_OPEN, UNREAD_FILE, TABLE_FAULT, NO_MEMORY.
  * Cost: as for `hordguli_tables_read`.
  * Since: 0.6. */
 hordguli_status hordguli_tables_open_folder_version(hordguli_tables *tables, uint32_t version, const char *folder,
                                                     hordguli_table_fault *fault);
 
-/* Stores the version of the tables, such as HORDGULI_UNICODE_15_0.
+/* Stores the Unicode version of the tables in `*version`, such as HORDGULI_UNICODE_15_0.
  * Errors: NULL, OVERLAP, CLOSED.
  * Cost: O(1).
  * Since: 0.6. */
@@ -421,21 +431,21 @@ void hordguli_tables_close(hordguli_tables *tables);
 
 /* ---- Whole texts ---- */
 
-/* Lays out a text, and writes its lines to a buffer, as UTF-8. `*written` is the byte count. NULL with capacity 0 is
- * NO_ROOM if there is anything to write (see BUFFERS). The bytes are those that `hordguli_lines_utf8` writes for all
- * lines of a session with these `options`, this `width` and this text. `print` is as in that function. For example, for
- * a line of a log:
+/* Lays out a text, and writes its lines to a buffer, as UTF-8. Stores their length, in bytes, in `*written`.
+ * NULL with capacity 0 returns NO_ROOM if there is anything to write (see BUFFERS). The bytes are those that
+ * `hordguli_lines_utf8` writes for all lines of a session with these `options`, this `width` and this text.
+ * `print` is as in that function. For example, to lay out a line of a log:
  *
  *     status = hordguli_layout(&tables, HORDGULI_WEAK_LTR, 80, HORDGULI_PRINT_DEFAULT, line, strlen(line),
  *                              sizeof buffer, buffer, &written);
  *
- * The handle keeps the memory that a call used. A later call that needs no more memory allocates nothing, unless only
- * one of the two calls has HORDGULI_LINE_SEPARATORS. The handle keeps at most 5 MB: memory for a text or for lines of
- * more than 65,536 bytes is freed. `hordguli_tables_close` frees what is kept. Threads that call this function at the
- * same time each need their own tables handle.
+ * The handle keeps the memory that a call used. A later call that needs no more memory allocates nothing,
+ * unless only one of the two calls has HORDGULI_LINE_SEPARATORS. The handle keeps at most 5 MB: memory for a
+ * text of more than 65,536 bytes, or for as many bytes of lines, is freed. `hordguli_tables_close` frees what
+ * is kept. Threads that call this function at the same time each need their own tables handle.
  *
- * On NOT_UTF8, `hordguli_valid_utf8` says where. NO_MEMORY comes before NO_ROOM, because the lines are gathered before
- * their size is known.
+ * On NOT_UTF8, call `hordguli_valid_utf8` to find the first invalid byte. NO_MEMORY comes before NO_ROOM,
+ * because the lines are collected in memory before their size is known.
  * Errors: NULL, OVERLAP, WIDTH_OUT_OF_RANGE (above 65,535), UNKNOWN_OPTION, NOT_UTF8, CLOSED, WIDTH_OUT_OF_RANGE (0),
  * TEXT_TOO_LONG, PARAGRAPH_TOO_LONG, NO_MEMORY, NO_ROOM.
  * Cost: time and memory proportional to `length` and to the lines, even with capacity 0.
@@ -443,15 +453,16 @@ void hordguli_tables_close(hordguli_tables *tables);
 hordguli_status hordguli_layout(hordguli_tables *tables, uint32_t options, uint32_t width, uint32_t print,
                                 const char *text, size_t length, size_t capacity, char *buffer, size_t *written);
 
-/* Stores in `*count` the number of characters in UTF-8 text of `length` bytes. On NOT_UTF8, `hordguli_valid_utf8` says
- * where.
+/* Stores in `*count` the number of characters in UTF-8 text of `length` bytes. On NOT_UTF8, call
+ * `hordguli_valid_utf8` to find the first invalid byte.
  * Errors: NULL, OVERLAP, NOT_UTF8.
  * Cost: O(length). */
 hordguli_status hordguli_count_utf8(const char *bytes, size_t length, size_t *count);
 
-/* Stores in `*valid` the length of the longest prefix of `bytes` that is valid UTF-8: `length` if all of it is valid,
- * else the index of the first byte that belongs to no character. An incomplete character at the end is not valid. After
- * NOT_UTF8, this is the index of the error, and the text before it is valid.
+/* Stores in `*valid` the length of the longest prefix of `bytes` that is valid UTF-8: `length` if all bytes
+ * are valid, else the index of the first invalid byte. A byte is invalid if it belongs to no complete
+ * character, even at the end of `bytes`. After another function has returned NOT_UTF8, the text before this
+ * index is valid.
  * Errors: NULL, OVERLAP.
  * Cost: O(length).
  * Since: 0.6. */
@@ -463,10 +474,11 @@ hordguli_status hordguli_valid_utf8(const char *bytes, size_t length, size_t *va
  *   characters  characters, for the functions in `Clusters and scripts`, `Rows` and `Levels and properties`
  *   offsets     byte offset of each character
  *
- * On NO_ROOM, `*count` is set and the arrays are unchanged. Text that is not UTF-8 is refused, as in all functions, so
- * a position always means the same character. On NOT_UTF8, `hordguli_valid_utf8` says where. To replace invalid bytes
- * with U+FFFD, decode the text before the first of them, write U+FFFD, skip one byte, and repeat. Each invalid byte
- * then becomes one U+FFFD.
+ * On NO_ROOM, `*count` is set and the arrays are unchanged. Like all other functions, this one refuses text
+ * that is not UTF-8, so that positions in the text are the same for all of them. On NOT_UTF8, call
+ * `hordguli_valid_utf8` to find the first invalid byte. To replace invalid bytes with U+FFFD, decode the text
+ * before the first of them, write U+FFFD, skip one byte, and repeat. Each invalid byte then becomes one
+ * U+FFFD.
  * Errors: NULL, OVERLAP, NOT_UTF8, NO_ROOM.
  * Cost: O(length).
  * Since: 0.6. */
@@ -475,12 +487,13 @@ hordguli_status hordguli_decode(const char *bytes, size_t length, size_t capacit
 
 /* ---- Sessions and edits ---- */
 
-/* What an edit replaced: `old_lines` lines from `first_line` on became `new_lines` lines, and likewise for paragraphs.
- * All other lines are unchanged but renumbered: line `first_line + old_lines` becomes line `first_line + new_lines`,
- * and so on. If there are fewer lines than before, clear the rows below the last one. By design, damage names whole
- * paragraphs: all that contain or touch the edited range, even if nothing is inserted or deleted. So text that is
- * appended after a final separator also replaces the last paragraph. For the lines that changed, see
- * `hordguli_changed_lines`. A caller that redraws everything may pass NULL as `damage`. */
+/* What an edit replaced: `old_lines` lines from `first_line` on became `new_lines` lines, and likewise for
+ * paragraphs. All other lines are unchanged but renumbered: line `first_line + old_lines` becomes line
+ * `first_line + new_lines`, and so on. If there are fewer lines than before, clear the rows below the last
+ * one. By design, damage consists of whole paragraphs: all those that contain or touch the edited range, even
+ * if nothing is inserted or deleted. So appending text after a final separator also replaces the last
+ * paragraph. `hordguli_changed_lines` stores which of these lines changed. A caller that redraws everything
+ * may pass NULL as `damage`. */
 typedef struct hordguli_damage {
     size_t first_line;
     size_t old_lines;
@@ -490,18 +503,19 @@ typedef struct hordguli_damage {
     size_t new_paragraphs;
 } hordguli_damage;
 
-/* Opens a session on a text. `width` is in columns. The session shares the tables, so their handle may be closed
- * before the session. On NOT_UTF8, `hordguli_valid_utf8` says where. NO_MEMORY comes directly after CLOSED if 2^63
- * sessions share the tables.
+/* Opens a session on a text. `width` is in columns. The session shares the tables, so their handle may be
+ * closed before the session. On NOT_UTF8, call `hordguli_valid_utf8` to find the first invalid byte. If 2^63
+ * sessions already share the tables, NO_MEMORY is returned, and comes directly after CLOSED.
  * Errors: NULL, OVERLAP, WIDTH_OUT_OF_RANGE (above 65,535), UNKNOWN_OPTION, NOT_UTF8, ALREADY_OPEN (the session),
  * CLOSED (the tables), WIDTH_OUT_OF_RANGE (0), TEXT_TOO_LONG, PARAGRAPH_TOO_LONG, NO_MEMORY.
  * Cost: time and memory proportional to `length`. */
 hordguli_status hordguli_session_open(hordguli_session *session, hordguli_tables *tables, uint32_t options,
                                       uint32_t width, const char *text, size_t length);
 
-/* Opens a measured session on a text (see MEASURED TEXT). `width` is in the caller's unit, from 1 to 2,147,483,647. All
- * advances are 0 until `hordguli_set_advances` sets them, so lines end at mandatory breaks only. On NOT_UTF8,
- * `hordguli_valid_utf8` says where. The rest is as in `hordguli_session_open`.
+/* Opens a measured session on a text (see MEASURED TEXT). `width` is in the caller's unit, from 1 to
+ * 2,147,483,647. All advances are 0 until `hordguli_set_advances` sets them, so lines end at mandatory breaks
+ * only. On NOT_UTF8, call `hordguli_valid_utf8` to find the first invalid byte. Otherwise like
+ * `hordguli_session_open`.
  * Errors: NULL, OVERLAP, UNKNOWN_OPTION, NOT_UTF8, ALREADY_OPEN (the session), CLOSED (the tables), WIDTH_OUT_OF_RANGE,
  * TEXT_TOO_LONG, PARAGRAPH_TOO_LONG, NO_MEMORY.
  * Cost: as for `hordguli_session_open`.
@@ -512,8 +526,9 @@ hordguli_status hordguli_session_open_measured(hordguli_session *session, hordgu
 /* Frees the session and closes the handle. Safe on a closed handle or NULL. */
 void hordguli_session_close(hordguli_session *session);
 
-/* Inserts text before the character at `pos`, or at the end of the text. Stores in `*damage` which lines were replaced.
- * On NOT_UTF8, `hordguli_valid_utf8` says where.
+/* Inserts text before the character at `pos`, or at the end if `pos` is the length of the text. Stores in
+ * `*damage` which lines were replaced. On NOT_UTF8, call `hordguli_valid_utf8` to find the first invalid
+ * byte.
  * Errors: NULL, OVERLAP, NOT_UTF8, CLOSED, OUT_OF_RANGE, TEXT_TOO_LONG, PARAGRAPH_TOO_LONG, NO_MEMORY.
  * Cost: O(log n), plus O(1) per replaced paragraph, plus the layout of the new paragraphs. */
 hordguli_status hordguli_insert(hordguli_session *session, size_t pos, const char *text, size_t length,
@@ -524,21 +539,21 @@ hordguli_status hordguli_insert(hordguli_session *session, size_t pos, const cha
  * Cost: as for `hordguli_insert`. */
 hordguli_status hordguli_delete(hordguli_session *session, size_t pos, size_t count, hordguli_damage *damage);
 
-/* Replaces the `count` characters that start at `pos` with text, in one edit. On NOT_UTF8, `hordguli_valid_utf8` says
- * where.
+/* Replaces the `count` characters that start at `pos` with text, in one edit. On NOT_UTF8, call
+ * `hordguli_valid_utf8` to find the first invalid byte.
  * Errors: NULL, OVERLAP, NOT_UTF8, CLOSED, OUT_OF_RANGE, TEXT_TOO_LONG, PARAGRAPH_TOO_LONG, NO_MEMORY.
  * Cost: as for `hordguli_insert`. */
 hordguli_status hordguli_replace(hordguli_session *session, size_t pos, size_t count, const char *text, size_t length,
                                  hordguli_damage *damage);
 
-/* Sets the width, in columns, and rewraps the paragraphs. The damage covers all lines, even if the width is the same. In
- * a measured session, the width is in the caller's unit.
+/* Sets the width, in columns, and rewraps the paragraphs. The damage covers all lines, even if the width is
+ * the same. In a measured session, the width is in the caller's unit, and also at most 65,535.
  * Errors: NULL, OVERLAP, WIDTH_OUT_OF_RANGE, CLOSED, NO_MEMORY.
  * Cost: O(n), plus wrapping each paragraph. A paragraph of one line that fits the new width is skipped, unless
  * HORDGULI_SHOW_SPACES is set and the line hides a space that fits. */
 hordguli_status hordguli_set_width(hordguli_session *session, uint32_t width, hordguli_damage *damage);
 
-/* Sets the width of a measured session, from 1 to 2,147,483,647. The rest is as in `hordguli_set_width`.
+/* Sets the width of a measured session, from 1 to 2,147,483,647. Otherwise like `hordguli_set_width`.
  * Errors: NULL, OVERLAP, CLOSED, NOT_MEASURED, WIDTH_OUT_OF_RANGE, NO_MEMORY.
  * Cost: as for `hordguli_set_width`.
  * Since: 0.6. */
@@ -552,13 +567,13 @@ typedef struct hordguli_changed {
     size_t new_lines;
 } hordguli_changed;
 
-/* Stores in `*changed` which lines changed in the last successful call that edited the text, set the width or set
- * advances. These are the lines of the call's damage, which names whole paragraphs, without the longest run of
- * unchanged lines at the start, and then without the longest such run at the end. An unchanged line has the same
- * characters, levels, maps, columns, advances, base level and length as before, and is the first line of its paragraph
- * if and only if it was before. The padding, which depends on the width, is not compared: RTL lines move when the
- * width changes, so draw all of them then. After the session is opened, all lines count as changed. A failed call does
- * not change the result.
+/* Stores in `*changed` which lines changed in the last successful call that edited the text, set the width or
+ * set advances. These are the lines of the call's damage, which consists of whole paragraphs, except the
+ * unchanged lines at its start and then those at its end. An unchanged line has the same characters, levels,
+ * maps, columns, advances, base level and length as before, and is the first line of its paragraph if and
+ * only if it was before. The padding, which depends on the width, is not compared: RTL lines move when the
+ * width changes, so redraw all of them. After the session is opened, all lines count as changed. A failed
+ * call does not change the result.
  * Errors: NULL, OVERLAP, CLOSED.
  * Cost: O(1).
  * Since: 0.6. */
@@ -567,8 +582,9 @@ hordguli_status hordguli_changed_lines(hordguli_session *session, hordguli_chang
 /* Sets the advances of the `count` characters that start at `pos`, in a measured session, and rewraps the paragraphs
  * that contain them. Stores in `*damage` which lines were replaced: none if `count` is 0.
  *
- * After an edit, set the advances of all new paragraphs, since a shaper may choose other glyphs next to the edit.
- * `hordguli_paragraph` stores where they start and how long they are.
+ * After an edit, set the advances of all new paragraphs, since a shaper may choose other glyphs next to the
+ * edit. `hordguli_paragraph` stores the start and the length of each. For example, with a function `measure`
+ * of the caller:
  *
  *     status = hordguli_insert(&session, pos, text, length, &edited);
  *     if (!status) status = measure(edited.first_paragraph, edited.new_paragraphs, &start, &count, advances);
@@ -577,7 +593,8 @@ hordguli_status hordguli_changed_lines(hordguli_session *session, hordguli_chang
  * From line `edited.first_line` on, `edited.old_lines` lines have then become `measured.new_lines` lines.
  *
  * Errors: NULL, OVERLAP, CLOSED, NOT_MEASURED, OUT_OF_RANGE, PARAGRAPH_TOO_LONG, NO_MEMORY.
- * Cost: O(log n), plus O(`count`), plus wrapping these paragraphs. Levels and break marks are not computed again.
+ * Cost: O(log n), plus O(`count`), plus wrapping the paragraphs. Levels and break marks are not computed
+ * again.
  * Since: 0.6. */
 hordguli_status hordguli_set_advances(hordguli_session *session, size_t pos, size_t count, const uint32_t *advances,
                                       hordguli_damage *damage);
@@ -589,17 +606,17 @@ typedef struct hordguli_counts {
     size_t width;
 } hordguli_counts;
 
-/* Stores the size of a session in `*counts`.
+/* Stores the numbers of characters, lines and paragraphs, and the width, in `*counts`.
  * Errors: NULL, OVERLAP, CLOSED.
  * Cost: O(1). */
 hordguli_status hordguli_session_counts(hordguli_session *session, hordguli_counts *counts);
 
-/* Work counters, for checking that edits stay incremental. The counters count characters since the session was opened,
- * and saturate at UINT64_MAX. */
+/* Work counters, for checking that edits stay incremental. Each counts the characters that were processed for
+ * one purpose since the session was opened, and saturates at UINT64_MAX. */
 typedef struct hordguli_work {
-    uint64_t analysed;  /* levels and break marks computed */
-    uint64_t filled;    /* line starts computed */
-    uint64_t written;   /* put into visual order */
+    uint64_t analysed;  /* to compute their levels and break marks */
+    uint64_t filled;    /* to compute the starts of their lines */
+    uint64_t written;   /* to put their lines into visual order */
 } hordguli_work;
 
 /* Stores the work counters in `*work`. Calls that fail with NO_MEMORY can increase them too.
@@ -619,7 +636,7 @@ typedef struct hordguli_line_info {
     size_t length;     /* characters, including the tail */
     size_t shown;      /* characters in the shown part */
     size_t columns;    /* columns of the shown part */
-    size_t padding;    /* columns left of the shown part if it is padded */
+    size_t padding;    /* columns to the left of the shown part if RTL lines are padded; 0 for an LTR line */
     uint32_t base;     /* base level of its paragraph, 0 or 1 */
     uint32_t first;    /* 1 for the first line of a paragraph, else 0 */
 } hordguli_line_info;
@@ -649,11 +666,12 @@ typedef struct hordguli_run {
     uint32_t zero;  /* always 0 */
 } hordguli_run;
 
-/* Stores the directional runs of a line's shown part, from left to right, for shaping text: the longest ranges of
- * characters at one level after L1. The runs do not depend on HORDGULI_REORDER_NSM and HORDGULI_REORDER_CLUSTERS, which
- * move characters only inside runs. The number of runs is stored in `*count`, and the runs in an array of `capacity`
- * elements. NULL with capacity 0 returns NO_ROOM if there are runs (see BUFFERS). Fails with OUT_OF_RANGE if the line
- * does not exist. To read the characters of a run in logical order:
+/* Stores the directional runs of a line's shown part, from left to right, for shaping text: the longest
+ * ranges of characters at one level after L1. The runs do not depend on HORDGULI_REORDER_NSM or
+ * HORDGULI_REORDER_CLUSTERS, which move characters only inside runs. The number of runs is stored in
+ * `*count`, and the runs in an array of `capacity` elements. NULL with capacity 0 returns NO_ROOM if there
+ * are runs (see BUFFERS). Fails with OUT_OF_RANGE if the line does not exist. To read the characters of a run
+ * in logical order:
  *
  *     status = hordguli_line_start(&session, line, &start);
  *     if (!status) status = hordguli_text_utf32(&session, start + run.start, run.length, 80, characters, &length);
@@ -672,7 +690,7 @@ hordguli_status hordguli_runs(hordguli_session *session, size_t line, size_t cap
  *     status = hordguli_lines_utf8(&session, damage.first_line, damage.new_lines,
  *                                  HORDGULI_PRINT_DEFAULT, capacity, buffer, &length);
  *
- * NO_MEMORY comes before NO_ROOM, because the output is gathered before its size is known.
+ * NO_MEMORY comes before NO_ROOM, because the output is collected in memory before its size is known.
  * Errors: NULL, OVERLAP, UNKNOWN_OPTION, CLOSED, OUT_OF_RANGE, NO_MEMORY, NO_ROOM.
  * Cost: O(log n) per paragraph, plus time and memory proportional to the output, even with capacity 0. */
 hordguli_status hordguli_lines_utf8(hordguli_session *session, size_t first, size_t count, uint32_t print,
@@ -713,22 +731,24 @@ hordguli_status hordguli_byte_of(hordguli_session *session, size_t pos, size_t *
  * Since: 0.6. */
 hordguli_status hordguli_utf16_of(hordguli_session *session, size_t pos, size_t *unit);
 
-/* The character at `pos` that contains an offset. `rest` is how many of its bytes or code units come before the
- * offset. */
+/* The position `pos` of the character that contains a byte or code unit, and the number `rest` of the
+ * character's bytes or code units before that one. */
 typedef struct hordguli_position {
     size_t pos;
     size_t rest;
 } hordguli_position;
 
-/* Stores the position of a UTF-8 byte, counted from 0, in `*position`. At the end of the text, `pos` is the number of
- * characters and `rest` is 0. Fails with OUT_OF_RANGE if `byte` is past the end.
+/* Stores in `*position` which character contains UTF-8 byte `byte` of the text, counted from 0. At the end of
+ * the text, `pos` is the number of characters and `rest` is 0. Fails with OUT_OF_RANGE if `byte` is past the
+ * end.
  * Errors: NULL, OVERLAP, CLOSED, OUT_OF_RANGE.
  * Cost: as for `hordguli_byte_of`.
  * Since: 0.6. */
 hordguli_status hordguli_position_of_byte(hordguli_session *session, size_t byte, hordguli_position *position);
 
-/* Stores the position of a UTF-16 code unit, counted from 0, in `*position`. At the end of the text, `pos` is the number
- * of characters and `rest` is 0. Fails with OUT_OF_RANGE if `unit` is past the end.
+/* Stores in `*position` which character contains UTF-16 code unit `unit` of the text, counted from 0. At the
+ * end of the text, `pos` is the number of characters and `rest` is 0. Fails with OUT_OF_RANGE if `unit` is
+ * past the end.
  * Errors: NULL, OVERLAP, CLOSED, OUT_OF_RANGE.
  * Cost: as for `hordguli_utf16_of`.
  * Since: 0.6. */
@@ -756,16 +776,17 @@ hordguli_status hordguli_paragraph(hordguli_session *session, size_t paragraph, 
 
 /* ---- Carets and edges ----
  *
- * A position has two edges: the leading edge of the character at that position, and the trailing edge of the character
- * before it. Where the direction changes or a line wraps, the two are apart on the screen. An editor keeps one of the
- * two edges as its caret; edits happen at `pos` either way. For example, in a text of `abc `, three Hebrew letters and
- * ` def`, the edge before 4 is at column 7, to the right of the first letter, and the edge after 4 at column 4, to the
- * right of the space.
+ * A position has two edges: the edge before it is the leading edge of the character at that position, and the
+ * edge after it is the trailing edge of the preceding character. Where the direction changes or a line wraps,
+ * the two edges are at different places on the screen. An editor keeps one of the two as its caret; edits
+ * happen at `pos` either way. For example, in the text `abc `, three Hebrew letters and ` def`, the edge
+ * before position 4 is at column 7, to the right of the first letter. The edge after position 4 is at column
+ * 4, to the right of the space.
  *
- * A caret moves over one caret unit: a grapheme cluster or, if its characters are in several level runs, the part in
- * one such run. A boundary is a column where a caret unit begins or ends.
+ * In one step, a caret moves over one caret unit: a grapheme cluster or, if its characters are in several
+ * level runs, its part in one of these runs. A boundary is a column where a caret unit begins or ends.
  *
- * New programs store the caret as an edge, and call these functions:
+ * A new program should store the caret as an edge, and call:
  *   - `hordguli_edge_caret` to draw the caret
  *   - `hordguli_step` and `hordguli_line_edges` for Left, Right, Home and End
  *   - `hordguli_nearest_edge` for clicks
@@ -773,12 +794,12 @@ hordguli_status hordguli_paragraph(hordguli_session *session, size_t paragraph, 
  *   - `hordguli_word_at` for words, and `hordguli_spans` for the selection
  *   - `hordguli_cluster_at` for the cluster that Backspace (at `pos - 1`) or Delete (at `pos`) removes
  *
- * After typing and Backspace, keep the edge after the position. At the start of the text, and after a separator,
- * U+000B, U+000C or U+2028, keep the edge before it. After Delete, also keep the edge before it. The guide has code for
- * all of these.
+ * After typing or Backspace, keep the edge after the position. But at the start of the text, and after a
+ * separator, U+000B, U+000C or U+2028, keep the edge before the position. After Delete, always keep the edge
+ * before the position. The guide has code for all of these cases.
  *
- * `hordguli_caret_at` and `hordguli_hit_at` are for programs that keep a position. These functions use only the
- * position's leading edge, and leave clusters to the caller. */
+ * `hordguli_caret_at` and `hordguli_hit_at` are for programs that keep a position. These functions use only
+ * the edge before the position, and the caller must keep positions at cluster boundaries. */
 
 typedef struct hordguli_place {
     size_t paragraph;
@@ -786,12 +807,13 @@ typedef struct hordguli_place {
     size_t offset;  /* characters of the line before the place */
 } hordguli_place;
 
-/* Stores the place of the character at `pos` in `*place`. If `pos` is the end of the text, the place is after the last
- * character. But if the text is empty or ends with a separator, the place is the start of the next paragraph, which
- * does not exist yet. Then `paragraph` and `line` are the numbers of paragraphs and lines in the text.
+/* Stores the place of the character at `pos` in `*place`. If `pos` is the end of the text, the place is after
+ * the last character. But if the text is empty or ends with a separator, the place of its end is the start of
+ * a new paragraph, which does not exist yet. In this case, `paragraph` and `line` are the numbers of
+ * paragraphs and lines in the text.
  *
- * U+2028, U+000B and U+000C end a line, but not its paragraph. At the end of a text that ends with one, the place and
- * the caret stay on that line: a new line would have no character.
+ * U+2028, U+000B and U+000C end a line, but not its paragraph. At the end of a text that ends with one of
+ * these, the place and the caret stay on its line: a new line would have no character.
  * Errors: NULL, OVERLAP, CLOSED, OUT_OF_RANGE.
  * Cost: O(log n + log m) in a paragraph of m lines. */
 hordguli_status hordguli_place_of(hordguli_session *session, size_t pos, hordguli_place *place);
@@ -804,11 +826,11 @@ typedef struct hordguli_caret {
 } hordguli_caret;
 
 /* Stores in `*caret` where to draw the caret for `pos`. New programs call `hordguli_edge_caret`.
- *   - Before a shown character: at its left edge if its level is even, else at its right edge. At an odd level, with
- *     HORDGULI_REORDER_CLUSTERS or HORDGULI_REORDER_NSM, that can be inside its cluster; `hordguli_edge_caret` stores the
- *     end of the cluster.
- *   - Before a character that is not shown, and at the end of the text: at the end of the line. The end is right of all
- *     columns in an LTR paragraph, and column 0 in an RTL paragraph.
+ *   - Before a shown character: at its left edge if its level is even, else at its right edge. At an odd
+ *     level, with HORDGULI_REORDER_CLUSTERS or HORDGULI_REORDER_NSM, this edge can be inside the character's
+ *     cluster; `hordguli_edge_caret` stores the end of the cluster.
+ *   - Before a character that is not shown, and at the end of the text: at the end of the line. The end is to
+ *     the right of all columns in an LTR paragraph, and at column 0 in an RTL paragraph.
  *   - At the start of a paragraph that does not exist yet (see `hordguli_place_of`): at column 0. `level` is then the
  *     base level of an empty paragraph. If this level is odd, draw the caret at the right edge of the screen.
  *
@@ -829,14 +851,16 @@ typedef struct hordguli_hit {
  *     0.
  *   - In a line of width 0: the first character, with `trailing` 0.
  *
- * So `trailing` is 0 except to the right of the text. To place the caret at screen column `x` of a padded line:
+ * So `trailing` can be 1 only to the right of the shown part. To place the caret at screen column `x` of a
+ * padded line:
  *
  *     status = hordguli_hit_at(&session, line, x - info.padding, &hit);
  *     if (!status) status = hordguli_cluster_at(&session, hit.pos, &cluster);
  *     if (!status) pos = hit.trailing ? cluster.end : cluster.start;
  *
- * If `x` is in the padding, use column 0. Then, if the width of the line is not 0 and the level of the character (see
- * `hordguli_caret_at`) is odd, set `trailing` to 1. `cluster.end` can be the start of the next line.
+ * If `x` is in the padding, use column 0. In that case, if the width of the line is not 0 and the level of
+ * the character (see `hordguli_caret_at`) is odd, set `trailing` to 1. `cluster.end` can be the start of the
+ * next line.
  *
  * Errors: NULL, OVERLAP, CLOSED, OUT_OF_RANGE.
  * Cost: O(log n), plus O(length of the line). */
@@ -851,8 +875,9 @@ typedef struct hordguli_cluster {
 /* Stores the grapheme cluster of the character at `pos` in `*cluster`. Fails with OUT_OF_RANGE if `pos` is the end of
  * the text.
  * Errors: NULL, OVERLAP, CLOSED, OUT_OF_RANGE, NO_MEMORY.
- * Cost: O(log n), plus time and memory proportional to the characters around `pos`, up to the nearest places where a
- * cluster ends regardless of context. At worst, as among flags, these are all characters of the paragraph. */
+ * Cost: O(log n), plus time and memory proportional to the characters around `pos`, up to the nearest places
+ * where a cluster ends regardless of context. At worst, as in a paragraph of flags, these are all characters
+ * of the paragraph. */
 hordguli_status hordguli_cluster_at(hordguli_session *session, size_t pos, hordguli_cluster *cluster);
 
 /* The characters from `start` up to but not including `end`. `kind` is 1 if any of them is alphabetic or numeric, such
@@ -865,8 +890,9 @@ typedef struct hordguli_word {
     uint32_t zero;
 } hordguli_word;
 
-/* Stores in `*word` the word that contains the character at `pos`: the segment between two word boundaries (UAX #29)
- * in the paragraph. Fails with OUT_OF_RANGE if `pos` is the end of the text.
+/* Stores in `*word` the word that contains the character at `pos`: the segment of the paragraph between the
+ * last word boundary (UAX #29) at or before `pos` and the next one. Fails with OUT_OF_RANGE if `pos` is the
+ * end of the text.
  *
  * The next word starts at `word.end`, and the previous word contains the character at `word.start - 1`.
  *
@@ -881,11 +907,12 @@ typedef struct hordguli_span {
     size_t right;
 } hordguli_span;
 
-/* Stores the columns that the characters from `from` up to but not including `to` cover in a line, for drawing a
- * selection: as few spans as possible, from left to right. Where the direction changes, a selection can have several
- * spans. `from` and `to` are positions in the text; those outside the line are ignored. The number of spans is stored
- * in `*count`, and the spans in an array of `capacity` elements. NULL with capacity 0 returns NO_ROOM if there are
- * spans (see BUFFERS). Fails with OUT_OF_RANGE if the line does not exist.
+/* Stores the columns that the characters from `from` up to but not including `to` cover in a line, for
+ * drawing a selection: as few spans as possible, from left to right. Where the direction changes, a selection
+ * can have several spans. `from` and `to` are positions in the text; characters outside the line are ignored.
+ * The number of spans is stored in `*count`, and the spans in an array of `capacity` elements. NULL with
+ * capacity 0 returns NO_ROOM if there are spans (see BUFFERS). Fails with OUT_OF_RANGE if the line does not
+ * exist.
  *
  *     for (size_t line = first_line; line <= last_line; line++) {
  *         status = hordguli_spans(&session, line, from, to, 16, spans, &count);
@@ -915,25 +942,29 @@ typedef struct hordguli_edge {
 
 /* Stores in `*caret` where to draw the caret at an edge: on the line of the character that the edge belongs to. This is
  * the character at `pos` for HORDGULI_BEFORE, and the character before `pos` for HORDGULI_AFTER.
- *   - If a caret unit begins (or ends) with that character: at the start (or end) of the unit.
- *   - At another shown character: at its leading edge, which is the left one if its level is even, or its trailing edge.
- *   - At a character that is not shown, and before the end of the text: as in `hordguli_caret_at`.
+ *   - For HORDGULI_BEFORE, if a caret unit begins with that character: at the start of the unit.
+ *   - For HORDGULI_AFTER, if a caret unit ends with that character: at the end of the unit.
+ *   - Otherwise, at a shown character: at its leading edge (HORDGULI_BEFORE) or its trailing edge
+ *     (HORDGULI_AFTER). The leading edge is the left one if the level is even, else the right one.
+ *   - At a character that is not shown, and for the edge before the end of the text: as in
+ *     `hordguli_caret_at`.
  *
- * `level` is the level of that character. In the line where a new paragraph would start, an odd `level` means that the
- * caret is at the right edge of the screen. A block cursor covers the cell at `column`, or at an odd level the cell to
- * its left. If there is no such cell, it covers the nearest one. Fails with OUT_OF_RANGE if the position is past the
- * end of the text, and for the edge after position 0.
+ * `level` is the level of that character, or the base level if the character is not shown or there is none.
+ * In the line where a new paragraph would start, an odd `level` means that the caret is at the right edge of
+ * the screen. A block cursor covers the cell at `column` if `level` is even, else the cell to the left of
+ * `column`. If there is no such cell, it covers the nearest one. Fails with OUT_OF_RANGE if the position is
+ * past the end of the text, and for the edge after position 0.
  *
  * Errors: NULL, OVERLAP, UNKNOWN_OPTION, CLOSED, OUT_OF_RANGE, NO_MEMORY.
  * Cost: as for `hordguli_cluster_at`, plus O(length of the line).
  * Since: 0.6. */
 hordguli_status hordguli_edge_caret(hordguli_session *session, hordguli_edge edge, hordguli_caret *caret);
 
-/* Moves a caret to the nearest boundary to the left or right on its line. Stores the edge there in `*next`, and 1 in
- * `*moved`. The stored edge is an edge of the caret unit that was passed. At the end of the line, stores 0 in `*moved`,
- * and leaves `*next` unchanged. The caller then chooses the next line. Column 0 is its left end, and SIZE_MAX its right
- * end. In a left-to-right document, the key Right leads to the left end of the line below, and Left to the right end of
- * the line above:
+/* Moves a caret to the nearest boundary to the left or right on its line. Stores the edge there in `*next`,
+ * and 1 in `*moved`. The stored edge is an edge of the caret unit that was passed. At the end of the line,
+ * stores 0 in `*moved`, and leaves `*next` unchanged. The caller then calls `hordguli_edge_at` for another
+ * line, with column 0 for its left end, or SIZE_MAX for its right end. In a left-to-right document, the key
+ * Right leads to the left end of the line below, and Left to the right end of the line above:
  *
  *     // Right
  *     status = hordguli_step(&session, caret, HORDGULI_RIGHT, &caret, &moved);
@@ -959,18 +990,20 @@ hordguli_status hordguli_step(hordguli_session *session, hordguli_edge edge, uin
  * see `hordguli_nearest_edge`. Column 0 is the left edge of the shown part, to the right of any padding.
  *   - In the shown part: the left end of the caret unit that covers the column.
  *   - Right of the shown part: its right end. So columns 0 and SIZE_MAX are the two ends of the line on the screen.
- *   - In a line of width 0: before its start.
- *   - In the line where a new paragraph would start (see `hordguli_place_of`): before the end of the text.
+ *   - In a line of width 0: the edge before its start.
+ *   - In the line where a new paragraph would start (see `hordguli_place_of`): the edge before the end of the
+ *     text.
  *
- * Fails with OUT_OF_RANGE for later lines.
+ * Fails with OUT_OF_RANGE if `line` is past the line that contains the end of the text.
  * Errors: NULL, OVERLAP, CLOSED, OUT_OF_RANGE, NO_MEMORY.
  * Cost: as for `hordguli_edge_caret`.
  * Since: 0.6. */
 hordguli_status hordguli_edge_at(hordguli_session *session, size_t line, size_t column, hordguli_edge *edge);
 
-/* Stores in `*edge` the edge nearest to a column of a line, for mouse clicks, which may hit either half of a character.
- * In the shown part, this is the nearer end of the caret unit that covers the column, or the right end at the unit's
- * middle. Elsewhere, and in a unit of one column, this is the edge that `hordguli_edge_at` stores.
+/* Stores in `*edge` the edge nearest to a column of a line, for mouse clicks, which may hit either half of a
+ * character. In the shown part, this is the nearer end of the caret unit that covers the column, or the right
+ * end if both are equally near. Elsewhere, and in a unit of one column, this is the edge that
+ * `hordguli_edge_at` stores.
  *
  * Fails with OUT_OF_RANGE for the same lines as `hordguli_edge_at`.
  * Errors: NULL, OVERLAP, CLOSED, OUT_OF_RANGE, NO_MEMORY.
@@ -978,16 +1011,16 @@ hordguli_status hordguli_edge_at(hordguli_session *session, size_t line, size_t 
  * Since: 0.6. */
 hordguli_status hordguli_nearest_edge(hordguli_session *session, size_t line, size_t column, hordguli_edge *edge);
 
-/* Stores the first and the last edge of a line in logical order, for the keys Home and End. The first edge is before the
- * start of the line. The last one is
- *   - before the separator that ends the line, if there is one (bidi class B, or line class BK, CR, LF or NL). CR LF is
- *     one separator;
+/* Stores the first and the last edge of a line in logical order, for the keys Home and End. The first edge is
+ * before the start of the line. The last edge is
+ *   - before the separator that ends the line, if there is one: a character of bidi class B or of line class
+ *     BK, CR, LF or NL, or the pair CR LF;
  *   - else, on the last line of the text, before the end of the text;
  *   - else before the first space that is not shown;
  *   - else after the last character of the line.
  *
- * In the line where a new paragraph would start, both edges are before the end of the text. Fails with OUT_OF_RANGE for
- * later lines.
+ * In the line where a new paragraph would start, both edges are before the end of the text. Fails with
+ * OUT_OF_RANGE if `line` is past the line that contains the end of the text.
  * Errors: NULL, OVERLAP, CLOSED, OUT_OF_RANGE.
  * Cost: O(log n).
  * Since: 0.6. */
@@ -1034,9 +1067,9 @@ typedef struct hordguli_script_run {
  *   - If the property is Common or Inherited, as for a space, a digit or a mark, the character has the script of the
  *     character before it. At the start of the text, such a character has the first script that follows, or Common
  *     (`Zyyy`) if none does.
- *   - But a closing bracket whose property is Common has the script of its opening bracket, if it has one. The tables
- *     determine which characters are brackets. Of brackets that are nested more than 63 deep, only the innermost 63 are
- *     matched.
+ *   - But a closing bracket whose property is Common has the script of the opening bracket that it matches,
+ *     if any. The tables determine which characters are brackets. If more than 63 opening brackets are
+ *     nested, only the innermost 63 are matched.
  *
  * The property Script_Extensions is not used. The number of runs is stored in `*run_count`, and the runs in an array of
  * `capacity` elements. NULL with capacity 0 returns NO_ROOM, unless `count` is 0 (see BUFFERS). NO_MEMORY comes before
@@ -1049,12 +1082,12 @@ hordguli_status hordguli_script_runs(hordguli_tables *tables, size_t count, cons
 
 /* ---- Rows ---- */
 
-/* Puts a row of `count` characters into visual order. The caller chooses where the row starts and ends. `base` is the
- * base level of its paragraph (`hordguli_base`), and `levels` are the levels of the row's characters in the whole
- * paragraph (`hordguli_levels`). `options` can have HORDGULI_REORDER_NSM and HORDGULI_REORDER_CLUSTERS. Only these
- * characters determine the clusters. Stores `count` elements in each array. Each array has `capacity` elements. NULL
- * arrays are skipped, so with all arrays NULL any capacity is enough (see BUFFERS). Positions count from the start of
- * the row.
+/* Puts a row of `count` characters into visual order. The caller chooses where the row starts and ends.
+ * `base` is the base level of its paragraph (`hordguli_base`), and `levels` are the levels of the row's
+ * characters in the whole paragraph (`hordguli_levels`). `options` can have HORDGULI_REORDER_NSM and
+ * HORDGULI_REORDER_CLUSTERS. The clusters depend only on the characters of the row. Stores `count` elements
+ * in each array. Each array has `capacity` elements. NULL arrays are skipped, so with all arrays NULL any
+ * capacity is enough (see BUFFERS). Positions count from the start of the row.
  *   visual      characters in visual order, mirrored (UAX #9, L4)
  *   row_levels  level of each character after L1, in logical order
  *   ltov        visual position of each logical position
@@ -1079,10 +1112,11 @@ hordguli_status hordguli_row(hordguli_tables *tables, uint32_t options, uint32_t
                              const uint32_t *characters, const uint8_t *levels, size_t capacity, uint32_t *visual,
                              uint8_t *row_levels, uint32_t *ltov, uint32_t *vtol);
 
-/* Stores the directional runs of a row, from left to right, for shaping text (see `hordguli_runs`). Positions count
- * from the start of the row. `base`, `characters` and `levels` are as in `hordguli_row`. The number of runs is stored
- * in `*run_count`, and the runs in an array of `capacity` elements. NULL with capacity 0 returns NO_ROOM, unless
- * `count` is 0 (see BUFFERS). NO_MEMORY comes before NO_ROOM, because the levels after L1 are gathered first.
+/* Stores the directional runs of a row, from left to right, for shaping text (see `hordguli_runs`). Positions
+ * count from the start of the row. `base`, `characters` and `levels` are as in `hordguli_row`. The number of
+ * runs is stored in `*run_count`, and the runs in an array of `capacity` elements. NULL with capacity 0
+ * returns NO_ROOM, unless `count` is 0 (see BUFFERS). NO_MEMORY comes before NO_ROOM, because memory for the
+ * levels after L1 is allocated first.
  * Errors: NULL, OVERLAP, CLOSED, NOT_A_CHARACTER, OUT_OF_RANGE, NO_MEMORY, NO_ROOM.
  * Cost: as for `hordguli_row`.
  * Since: 0.6. */
@@ -1091,9 +1125,9 @@ hordguli_status hordguli_row_runs(hordguli_tables *tables, uint32_t base, size_t
 
 /* ---- Levels and properties ----
  *
- * `hordguli_base`, `hordguli_levels`, `hordguli_marks`, `hordguli_reasons` and `hordguli_break_reasons` take one
- * paragraph of `count` characters, and do not split it at separators. `direction` is a base direction or 0, and can
- * have HORDGULI_LINE_SEPARATORS. NO_ROOM means that `capacity` is less than `count`.
+ * `hordguli_base`, `hordguli_levels`, `hordguli_marks`, `hordguli_reasons` and `hordguli_break_reasons` take
+ * one paragraph of `count` characters, and do not split it at separators. `direction` is a base direction or
+ * 0, optionally combined with HORDGULI_LINE_SEPARATORS. NO_ROOM means that `capacity` is less than `count`.
  *
  * To lay out text with these functions, a caller must:
  *   - split the text into paragraphs (UAX #9, P1);
@@ -1112,43 +1146,45 @@ hordguli_status hordguli_base(hordguli_tables *tables, uint32_t direction, const
 hordguli_status hordguli_levels(hordguli_tables *tables, uint32_t direction, const uint32_t *characters, size_t count,
                                 size_t capacity, uint8_t *levels);
 
-/* Stores in `marks` the break mark after each character. `options` is 0 or HORDGULI_WHOLE_NUMBERS. NULL returns
- * NO_ROOM, unless `count` is 0 (see BUFFERS).
+/* Stores in `marks` the break mark after each character. `options` can have HORDGULI_WHOLE_NUMBERS. NULL
+ * returns NO_ROOM, unless `count` is 0 (see BUFFERS).
  * Errors: NULL, OVERLAP, UNKNOWN_OPTION, CLOSED, NO_ROOM, NOT_A_CHARACTER, NO_MEMORY.
  * Cost: time and memory proportional to `count`. */
 hordguli_status hordguli_marks(hordguli_tables *tables, uint32_t options, const uint32_t *characters, size_t count,
                                size_t capacity, uint8_t *marks);
 
-/* Which case of N0 (UAX #9) applies to a bracket, or why it is unpaired. Numbers count as strong types. */
+/* Which case of N0 (UAX #9) applies to a bracket, or why it is unpaired. Numbers (EN, AN) count as R, a
+ * strong type. */
 #define HORDGULI_BRACKET_CASE_B 1           /* a strong type of the embedding direction inside the pair */
 #define HORDGULI_BRACKET_CASE_C1 2          /* only the opposite direction inside, and also before the pair */
 #define HORDGULI_BRACKET_CASE_C2 3          /* only the opposite direction inside, but not before the pair */
 #define HORDGULI_BRACKET_CASE_D 4           /* no strong type inside, so N0 does not change the pair */
 #define HORDGULI_BRACKET_CASE_NOT_OTHER 5   /* unpaired: before N0, its type is not ON */
 #define HORDGULI_BRACKET_CASE_NO_MATCH 6    /* unpaired: no bracket of its sequence matches */
-#define HORDGULI_BRACKET_CASE_PAST_LIMIT 7  /* unpaired: pairing stopped at 63 open ones (BD16) */
+#define HORDGULI_BRACKET_CASE_PAST_LIMIT 7  /* unpaired: pairing stopped with 63 brackets open (BD16) */
 
 /* The rule that decides the type of a neutral (UAX #9). */
 #define HORDGULI_NEUTRAL_N1 1
 #define HORDGULI_NEUTRAL_N2 2
 
-/* How the algorithm arrives at the level of a character (UAX #9). A position that does not exist is UINT32_MAX, and a
- * class that does not exist is 0xFF. A character that X9 removes has no `sequence`, `sos` and `eos`, no classes after
- * the original one, and no case. */
+/* How the algorithm arrives at the level of a character (UAX #9). A position that does not exist is
+ * UINT32_MAX, and a class that does not exist is 0xFF. A character that X9 removes has no `sequence`, `sos`
+ * or `eos`, no classes after the original one, and no case. Its `left` is the last character before it that
+ * X9 keeps, which determines its level. */
 typedef struct hordguli_reason {
     uint32_t opener;         /* innermost embedding, override or isolate around it that does not overflow */
-    uint32_t matching;       /* the PDI of an isolate initiator, or the initiator of a PDI */
+    uint32_t matching;       /* matching PDI of an isolate initiator, or matching initiator of a PDI */
     uint32_t sequence;       /* first character of its isolating run sequence */
-    uint32_t partner;        /* the other bracket of a pair, or the bracket before a mark that N0 changes */
-    uint32_t inside;         /* in the cases B, C1 and C2, the first strong character inside the pair that decides */
-    uint32_t left;           /* the character before a run of neutrals; for one that X9 removes, that with its level */
+    uint32_t partner;        /* other bracket of its pair; for a mark that N0 changes, the bracket before */
+    uint32_t inside;         /* the character inside a pair that determines case B, C1 or C2 */
+    uint32_t left;           /* the character before a run of neutrals */
     uint32_t right;          /* the character after a run of neutrals */
     uint8_t class_after[11]; /* HORDGULI_BIDI_CLASS_..: original, after X8, W1 to W7, N0 and N2 */
-    uint8_t override_class;  /* direction of the override that it is directly in, L or R */
+    uint8_t override_class;  /* direction of the override that applies to it, L or R */
     uint8_t embedding_level; /* after X8 */
     uint8_t level;           /* as `hordguli_levels` stores it */
-    uint8_t sos;             /* direction of the sequence's start, L or R */
-    uint8_t eos;             /* direction of its end */
+    uint8_t sos;             /* direction at the start of the sequence, L or R */
+    uint8_t eos;             /* direction at the end of the sequence, L or R */
     uint8_t bracket_case;    /* HORDGULI_BRACKET_CASE_.., or 0 if it is not a bracket */
     uint8_t neutral;         /* HORDGULI_NEUTRAL_.., or 0 if its type after N0 is not neutral */
 } hordguli_reason;
@@ -1165,18 +1201,18 @@ hordguli_status hordguli_reasons(hordguli_tables *tables, uint32_t direction, co
 /* The rule that decides a break mark (UAX #14), and what the rule reads. A base is a character and what LB9 attaches to
  * it. A position that does not exist is UINT32_MAX. */
 typedef struct hordguli_break_reason {
-    uint32_t base;           /* where the base before the mark starts */
-    uint32_t behind_spaces;  /* where the nearest base that is not a space starts, which rules with `SP*` read */
-    uint8_t rule;            /* number of the first rule that applies, such as 8 of LB8a */
-    uint8_t letter;          /* its letter, such as 'a' of LB8a, or 0 */
-    uint8_t class_before;    /* HORDGULI_LINE_CLASS_.. of that base, after LB1 and LB10 */
-    uint8_t class_after;     /* that of the next base or, inside a base, character; 0xFF at the end */
+    uint32_t base;           /* start of the base before the mark */
+    uint32_t behind_spaces;  /* start of the last such base that is not a space, for rules with `SP*` */
+    uint8_t rule;            /* number of the first rule that applies, such as 8 for LB8a */
+    uint8_t letter;          /* the rule's letter, such as 'a' for LB8a, or 0 if it has none */
+    uint8_t class_before;    /* HORDGULI_LINE_CLASS_.. of the base before the mark, after LB1 and LB10 */
+    uint8_t class_after;     /* that of the next base or, in a base, of the next character; 0xFF at the end */
     uint8_t mark;            /* as `hordguli_marks` stores it */
 } hordguli_break_reason;
 
-/* Stores in `reasons` which rule decides the break mark after each character. The rules are those of the tables'
- * version. `options` is 0 or HORDGULI_WHOLE_NUMBERS. NULL returns NO_ROOM, unless `count` is 0 (see BUFFERS). The marks
- * are those of `hordguli_marks`.
+/* Stores in `reasons` which rule decides the break mark after each character. The rules are those of the
+ * tables' Unicode version. `options` can have HORDGULI_WHOLE_NUMBERS. NULL returns NO_ROOM, unless `count` is
+ * 0 (see BUFFERS). The marks are those of `hordguli_marks`.
  * Errors: NULL, OVERLAP, UNKNOWN_OPTION, CLOSED, NO_ROOM, OUT_OF_RANGE (`count` is UINT32_MAX or more),
  * NOT_A_CHARACTER, NO_MEMORY.
  * Cost: time and memory proportional to `count`.
@@ -1264,7 +1300,7 @@ hordguli_status hordguli_break_reasons(hordguli_tables *tables, uint32_t options
 #define HORDGULI_MARK UINT32_C(1)
 #define HORDGULI_WIDE UINT32_C(2)
 
-/* Brackets (UAX #9, BD14 and BD15). */
+/* Whether a character is an opening or a closing bracket (UAX #9, BD14 and BD15). */
 #define HORDGULI_BRACKET_NONE 0
 #define HORDGULI_BRACKET_OPEN 1
 #define HORDGULI_BRACKET_CLOSE 2
@@ -1273,7 +1309,7 @@ hordguli_status hordguli_break_reasons(hordguli_tables *tables, uint32_t options
 typedef struct hordguli_character {
     uint32_t mirror;     /* its mirror (UAX #9, L4), or 0 */
     uint32_t pair;       /* the other bracket of its pair, or 0 */
-    uint32_t flags;      /* HORDGULI_MARK and HORDGULI_WIDE */
+    uint32_t flags;      /* HORDGULI_MARK, HORDGULI_WIDE, both or 0 */
     uint8_t bidi_class;  /* HORDGULI_BIDI_CLASS_.. */
     uint8_t line_class;  /* HORDGULI_LINE_CLASS_.. */
     uint8_t columns;     /* its width, 0 to 3; 0 for a tab and other control characters */

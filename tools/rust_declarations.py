@@ -9,7 +9,8 @@ import re, sys
 
 WIDTH = 100
 SCALARS = {"char": "c_char", "void": "c_void", "size_t": "usize", "int32_t": "i32", "uint8_t": "u8", "uint32_t": "u32", "uint64_t": "u64"}
-# The types of constants, by the first pattern that matches. A constant has the type of the fields and parameters that have its value.
+# The types of constants: that of the first pattern that matches the name. It is the type of the fields and
+# parameters for which the constant is a value.
 TYPES = [
     (r"VERSION_\w+|UNICODE_\w+", "u32"),
     (r"BREAK_\w+|BRACKET_(NONE|OPEN|CLOSE|CASE_\w+)|NEUTRAL_\w+|BIDI_CLASS_\w+|LINE_CLASS_\w+", "u8"),
@@ -24,7 +25,7 @@ pub const fn HORDGULI_TAB_WIDTH(n: u32) -> u32 {
     }
 }
 '''
-# Each type of numbers.rs: the prefix of its constants, the type of the field that has them, and what they are.
+# For each type in numbers.rs: the prefix of its constants, the type of their values, and a description.
 NUMBERS = {
     "BidiClass": ("BIDI_CLASS_", "u8", "A bidi class (UAX #9)."),
     "LineClass": ("LINE_CLASS_", "u8", "A line breaking class (UAX #14). Tables of Unicode 15.0 have those up to `XX`."),

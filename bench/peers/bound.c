@@ -1,14 +1,14 @@
-/* Does only what every program that prints a text has to do. Reads standard input in chunks of 64 KB, checks that it is
- * UTF-8, and writes BYTES bytes to standard output. The program copies the text line by line to a buffer of 64 KB, and
- * writes the buffer when it is full. After BYTES bytes, the program copies no more. If the text has fewer bytes, the
- * program copies the last chunk again and again. Usage: bound BYTES. */
+/* Does only what every program that prints a text has to do, as a lower bound for the time. Reads standard
+ * input in chunks of 64 KB, checks that it is UTF-8, and writes BYTES bytes to standard output. The program
+ * copies the text line by line to a buffer of 64 KB, and writes the buffer when it is full. After BYTES
+ * bytes, it stops copying. If the text has fewer bytes, it repeats the last chunk. Usage: bound BYTES. */
 #include <stdint.h>
 #include <stdio.h>
 #include <stdlib.h>
 #include <string.h>
 #include <unistd.h>
 
-/* The states of the check: between characters, or by the bytes that may follow. */
+/* The states of the UTF-8 check: between characters, or inside one, by the bytes that may follow */
 enum { WRONG = 0, BETWEEN = 6, ONE = 12, TWO = 18, THREE = 24, AFTER_E0 = 30, AFTER_ED = 36, AFTER_F0 = 42, AFTER_F4 = 48 };
 enum { SIZE = 1 << 16 };
 

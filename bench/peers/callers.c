@@ -1,4 +1,4 @@
-/* Measures FriBidi's functions in FriBidi's library and in the library OURS. Usage: callers OURS. */
+/* Measures the functions of FriBidi's library and of the library OURS. Usage: callers OURS. */
 #include "both.h"
 #include <time.h>
 

@@ -51,8 +51,8 @@ static int columns_between(int32_t from, int32_t to) {
     return columns;
 }
 
-/* Finds the lines of the paragraph in `text`. `start` is the start of a line, and `end` the last break opportunity at which
- * it fits. */
+/* Finds the lines of the paragraph in `text`. `start` is the start of the current line, and `end` is the last
+ * break opportunity at which that line fits. */
 static void fill_paragraph(int32_t length) {
     UErrorCode status = U_ZERO_ERROR;
     UBool has_clusters = false;
@@ -103,7 +103,7 @@ static void fill_paragraph(int32_t length) {
     put_line(start, length);
 }
 
-/* Opens ICU's objects, once. */
+/* Opens the ICU objects that all paragraphs use. */
 static void open_icu(void) {
     UErrorCode status = U_ZERO_ERROR;
     breaks = ubrk_open(UBRK_LINE, "en", NULL, 0, &status);

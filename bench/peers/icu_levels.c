@@ -50,7 +50,7 @@ static void put_line(int32_t from, int32_t to) {
     put('\n');
 }
 
-/* Whether a line must end after a character that is not a paragraph separator. */
+/* Whether a character ends a line, but not the paragraph. */
 static UBool ends_line(UChar c) {
     return c == 0x0B || c == 0x0C || c == 0x2028;
 }

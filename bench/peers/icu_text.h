@@ -1,4 +1,4 @@
-/* Shared by the ICU4C programs: standard input as UTF-16, its paragraphs, and an output buffer. */
+/* For the ICU4C programs: reads standard input as UTF-16, finds its paragraphs, and buffers output. */
 #ifndef ICU_TEXT_H
 #define ICU_TEXT_H
 #include <stdio.h>
@@ -56,8 +56,8 @@ static inline UBool ends_paragraph(UChar c) {
     return c == 0x0A || c == 0x0D || (c >= 0x1C && c <= 0x1E) || c == 0x85 || c == 0x2029;
 }
 
-/* Returns the end of the paragraph that contains `to`. A paragraph ends after a character of class B. CR LF
- * counts as one character. */
+/* Returns the end of the paragraph that contains `to`. A paragraph ends after a character of class B, or
+ * after CR LF. */
 static inline int32_t paragraph_end(const UChar *all, int32_t to, int32_t length) {
     while (to < length && !ends_paragraph(all[to])) to++;
     if (to + 1 < length && all[to] == 0x0D && all[to + 1] == 0x0A) to++;

@@ -66,7 +66,7 @@ static FriBidiBracketType *brackets;
 static FriBidiLevel *found;
 static UBiDi *bidi;
 
-/* Finds the level of each character of a paragraph with one of the libraries. */
+/* Finds the level of each character of a paragraph with the library `peer`. */
 static void levels_by(int peer, size_t paragraph, uint8_t *levels) {
     const uint32_t *at = text + starts[paragraph];
     size_t length = starts[paragraph + 1] - starts[paragraph];

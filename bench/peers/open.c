@@ -1,8 +1,8 @@
-/* Measures how long opening and closing a session on a string of 30 characters takes, and FriBidi's log2vis on the same
- * characters. Prints the processor time of both per string, the minimum of nine alternating runs, and their ratio. With
- * WHICH, only calls this function for all strings of a kind, ROUNDS times, so that another program can count its
- * instructions. Usage: open FOLDER [WHICH KIND ROUNDS], where FOLDER has the table files and WHICH is 0 for the session
- * or 1 for log2vis. */
+/* Measures opening and closing a session on a string of 30 characters, and FriBidi's log2vis on the same
+ * characters. Prints the processor time of both per string, the minimum of nine alternating runs, and their
+ * ratio. With WHICH, only runs one of the two, on all strings of a kind, ROUNDS times, so that another
+ * program can count its instructions. Usage: open FOLDER [WHICH KIND ROUNDS], where FOLDER has the table
+ * files and WHICH is 0 for the session or 1 for log2vis. */
 #define _POSIX_C_SOURCE 200809L
 #include "strings.h"
 #include <fribidi/fribidi.h>

@@ -21,7 +21,7 @@ static const char *const kinds[] = {"English", "Hebrew", "Arabic", "mixed"};
 static char strings[STRINGS][BYTES];
 static size_t lengths[STRINGS];
 
-/* Makes strings of words, each with this number of characters. */
+/* Fills the strings with random words. Each string has `characters` characters. */
 static void make(size_t kind, size_t characters) {
     static const char *const *const words[] = {english, hebrew, arabic};
     for (size_t k = 0; k < STRINGS; k++) {

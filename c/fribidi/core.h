@@ -1,15 +1,15 @@
 /* The functions of the proved crate hordguli_fribidi, on which fribidi.c is built.
  *
- * The parameters are named as in the crate, which tests/c/exports checks. An array is a pointer and a length. The
- * pointer is never NULL and is aligned for its type, even if the length is 0. An array that is written does not overlap
- * another array. */
+ * tests/c/exports checks that the parameters have the same names as in the crate. An array is a pointer and a
+ * length. The pointer is never NULL and is aligned for its type, even if the length is 0. An array that is
+ * written does not overlap another array. */
 #ifndef HORDGULI_FRIBIDI_CORE_H
 #define HORDGULI_FRIBIDI_CORE_H
 
 #include <stddef.h>
 #include <stdint.h>
 
-/* Lookups of single characters, in the tables of tools/generate_fribidi_tables. */
+/* Look up single characters in the tables that tools/generate_fribidi_tables writes. */
 uint32_t hordguli_fribidi_core_type(uint32_t c, const uint8_t index[static 4352], const uint32_t pages[static 65536]);
 void hordguli_fribidi_core_types(const uint8_t index[static 4352], const uint32_t pages[static 65536],
                                  const uint32_t *characters, size_t characters_length, uint32_t *types,
@@ -23,7 +23,7 @@ void hordguli_fribidi_core_brackets(const uint8_t index[static 4352], const uint
                                     size_t characters_length, const uint32_t *types, size_t types_length,
                                     uint32_t *brackets, size_t brackets_length);
 
-/* Returns the index of a type among those that have names, or 26 if it has no name. */
+/* Returns the index of a type among the types that have names, or 26 if the type has no name. */
 uint32_t hordguli_fribidi_core_name(uint32_t number);
 
 /* Functions on paragraphs and lines. If an allocation fails or lengths differ, they return 0 and change nothing.

@@ -1,6 +1,7 @@
-/* FriBidi's functions on types, levels and lines, on top of the proved crate hordguli_fribidi and the tables of
- * tools/generate_fribidi_tables. This file checks what the crate cannot: NULL pointers and negative lengths. The
- * functions follow FriBidi's header and manual. docs/fribidi-compat.md lists the differences. */
+/* FriBidi's functions on types, levels and lines, on top of the proved crate hordguli_fribidi and the tables
+ * that tools/generate_fribidi_tables writes. This file checks what the crate cannot: NULL pointers and
+ * negative lengths. The functions follow FriBidi's header and manual. docs/fribidi-compat.md lists the
+ * differences. */
 #include "core.h"
 #include "tables.h"
 

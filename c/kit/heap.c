@@ -7,7 +7,7 @@
 #include <stdint.h>
 #include <stdlib.h>
 
-/* Says whether there is a block, and where. If there is none, `p` is not NULL, and nothing is owned there. */
+/* Whether a block was allocated, and its address `p`. If not, `p` is not NULL, and nothing is owned there. */
 typedef struct tried {
     bool ok;
     uint8_t *p;
@@ -39,18 +39,19 @@ static size_t at_least_one(size_t n, size_t a) { return n == 0 ? a : n; }
  *     ensures got               if ok, p is a new block for such a value, aligned to a, which rattle_dealloc may free; otherwise p
  *                               is not NULL, and nothing is owned there
  *
- * The contract does not say when it fails. */
+ * The contract does not say when the allocation fails. */
 tried rattle_alloc(size_t n, size_t a) { return block_or_nothing(malloc(at_least_one(n, a))); }
 
 /* Tries to resize a block of rattle_alloc or rattle_realloc to n bytes.
  *
- *     requires sizes    kept is the size of some first elements of an array, and n that of the new array, which has at least these;
- *                       a is the alignment of an element, and divides 16; n < 2^63
+ *     requires sizes    kept is the size of the elements to keep, which are the first of an array;
+ *                       n is the size of the new array, which has at least these elements, and n < 2^63;
+ *                       a is the alignment of an element, and divides 16
  *     requires block    p is a block for the old array, which has at least these elements, and may be freed
  *     ensures regot     if ok, the block at the result's p is one for the new array, may be freed, and its first kept bytes are as
  *                       before; p is no longer a block, unless it is the same; otherwise the block at p is as before
  *
- * realloc keeps as many bytes as both arrays have, so kept is not needed. */
+ * realloc keeps the bytes that fit in both arrays, so it does not need kept. */
 tried rattle_realloc(uint8_t *p, size_t kept, size_t n, size_t a) {
     (void)kept;
     return block_or_nothing(realloc(p, at_least_one(n, a)));

@@ -103,7 +103,7 @@ from .text import (
     wrap,
 )  # fmt: skip
 
-# Only the functions and constants, so that help(hordguli) shows the functions and only names the classes.
+# The classes are left out, so that help(hordguli) describes the functions and only lists the classes by name.
 __all__ = [
     "TABLE_FILES",
     "UNICODE_VERSION",

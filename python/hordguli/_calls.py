@@ -35,7 +35,7 @@ class Handle:
 
     def __init__(self, kind: type[Structure], close: Callable[[Any], None]) -> None:
         self._kind, self._close = kind, close
-        # (a signal handler or a finalizer may use the handle while its own thread is between two calls)
+        # (reentrant: in a thread that holds the lock, a signal handler or a finalizer may use the handle)
         self.lock = threading.RLock()
         self._reset()
         _handles.add(self)
@@ -185,7 +185,7 @@ def make_call(call: Call, *arguments: Any) -> None:
     check(call(*arguments), *arguments)
 
 
-# Each of the following makes a call and returns what it stores through its last parameters.
+# Each of the following functions makes a call, and returns what the call stores through its last parameters.
 
 
 def get_size(call: Call, *arguments: Any) -> int:

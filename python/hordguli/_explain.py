@@ -18,7 +18,8 @@ from .text import base_level, break_reasons, properties, reasons
 WIDTHS = range(1, 121)  # of the layouts in a page
 _PAGE = os.path.join(os.path.dirname(os.path.abspath(__file__)), "_explain.html")
 _REORDERS = Options.REORDER_NSM | Options.REORDER_CLUSTERS  # (with these, a run may have another order than that of its level)
-# The columns of the table, and the fields of a character that they show. `partner` is of its reason, `shown` of `_shown`.
+# The columns of the table, and the fields of a character that they show. `_shown` and `_partner` return
+# the fields `shown` and `partner`.
 _COLUMNS = {
     "pos": "position",
     "char": "shown",

@@ -23,8 +23,8 @@ def _load() -> ctypes.CDLL:
 
 
 library = _load()
-# For `display`: these functions do not check or convert parameters, and so need half the time. Sizes and pointers have to be ctypes
-# objects.
+# For `display`: these functions do not check or convert arguments, and so need half the time. Callers must
+# pass sizes and pointers as ctypes objects.
 quick_base, quick_levels, quick_row = (library["hordguli_" + name] for name in ("base", "levels", "row"))
 VERSION: str = library.hordguli_version().decode()
 UNICODE_VERSION: str = library.hordguli_unicode_version().decode()

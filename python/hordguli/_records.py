@@ -29,7 +29,7 @@ class Options(enum.IntFlag):
     `tab_width(n)`: there is a tab stop every n columns, from 1 to 255; in a measured session, at the multiples of each tab's advance.
     """
 
-    # (a direction is bits 0 and 1; bits 24 and 25 say which of the two is given as 0)
+    # (bits 0 and 1 encode the direction; bit 24 is also set if bit 0 is 0, and bit 25 if bit 1 is 0)
     # from hordguli.h: Session options
     WEAK_LTR = 0x3000000
     WEAK_RTL = 0x2000001
@@ -475,7 +475,7 @@ class Explanation(NamedTuple):
     paragraphs: tuple[ExplainedParagraph, ...]
 
 
-# The number of each is its index.
+# In C, the number of each item is its index.
 BREAKS = [Break.NEVER, Break.MAY, Break.MUST]
 BRACKET_CASES = [None, *BracketCase]
 NEUTRAL_RULES = [None, *NeutralRule]
@@ -557,8 +557,8 @@ class RawBreakReason(NamedTuple):
     mark: int
 
 
-# How C stores each record: N is a size_t, I a uint32_t, Q a uint64_t, B a uint8_t, 11s an array of these, and x is padding or in the
-# member `zero`.
+# How C stores each record: N is a size_t, I a uint32_t, Q a uint64_t, B a uint8_t, 11s an array of 11
+# uint8_t, and x a byte of padding or of the member `zero`.
 FORMATS: dict[Any, Struct] = {
     # from hordguli.h: the records
     Damage: Struct("6N"),

@@ -16,7 +16,7 @@ _INITIATORS = "LRI", "RLI", "FSI"
 _REMOVED = "LRE", "RLE", "LRO", "RLO", "PDF", "BN"
 _LEVEL_RULES = {"RLI": "X5a", "LRI": "X5b", "FSI": "X5c", "PDI": "X6a"}  # X6 for other classes
 _OPENERS = {"LRE": "embedding", "RLE": "embedding", "LRO": "override", "RLO": "override"}  # others are isolates
-# The second words of names of letters, whose first word is a script.
+# The second words of letters' names. The first word of such a name is a script.
 _LETTERS = {"LETTER", "CAPITAL", "SMALL", "SYLLABLE"}
 
 
@@ -168,7 +168,7 @@ def _neutral_sentence(reasons: Sequence[Reason], reason: Reason, rule: NeutralRu
 
 # ---- Break marks ----
 
-# The name of each class. A final `?` stands for a character that `_noun` looks at.
+# The noun for each class. For a noun that ends in `?`, `_noun` also looks at the character.
 _NOUNS = {
     "AL": "letter?", "HL": "Hebrew letter", "NU": "digit", "OP": "opening bracket?", "CP": "closing bracket?", "CL": "closing punctuation mark",
     "EX": "exclamation or question mark", "IS": "numeric separator", "SY": "slash", "QU": "quotation mark", "GL": "non-breaking character",
@@ -180,7 +180,8 @@ _NOUNS = {
     "AK": "aksara", "AP": "aksara", "AS": "aksara", "VF": "virama", "VI": "virama",
 }  # fmt: skip
 # What each rule says. {before} and {after} name the bases before and after the mark, {both} names both of them,
-# and {behind} names the nearest base that is not a space. Of two sentences, the first is for no break.
+# and {behind} names the nearest base that is not a space. Of two sentences, the first
+# is used if there is no break, the second if there is one.
 _RULES = {
     "LB3": "the line ends with the paragraph",
     "LB4": "the line ends after {before}",
@@ -213,7 +214,8 @@ _RULES = {
     "LB30a": "no break inside a flag",
     "LB31": "a break, since no other rule applies",
 }
-# Rules for either side, with the classes after the mark for which they say "before".
+# The rules that apply before and after certain classes. If one of these classes is after the mark, the
+# sentence says "before", else "after".
 _SIDES = {"LB11": ["WJ"], "LB20": ["CB"], "LB21": ["BA", "HH", "HY", "NS"]}
 _ACTIONS = "no break", "a break"
 

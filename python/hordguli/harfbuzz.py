@@ -83,10 +83,11 @@ class Measure:
         scale = round(size * UNITS)
         self._shaper = _Shaper()
         self._fonts = [self._open(os.fspath(file), scale) for file in files]
-        # What is known about characters, and the characters that stay in a part of a font and script.
+        # What is known about each character. For each font and script, characters that do not end a part.
         self._known: dict[str, tuple[list[int], Optional[str], str]] = {}
         self._staying: dict[tuple[int, str], str] = {}
-        # The advances of the last level runs and parts. An edit leaves most of a paragraph's advances unchanged.
+        # The advances of recent level runs and parts. They are kept because an edit leaves most of a
+        # paragraph's advances unchanged.
         self._runs: dict[Any, list[int]] = {}
         self._parts: dict[Any, list[int]] = {}
         self._tab = _SPACES_OF_A_TAB * sum(self._part(" ", 0, 1, 0, _COMMON, 0))

@@ -266,16 +266,18 @@ class Session:
     # ---- Measuring ----
 
     def _start_measuring(self, text: str, measure: Measure, options: Options, tables: Optional[Tables]) -> None:
-        # This session finds the levels and the paragraph boundaries of a text, even if the tables are closed in the
-        # meantime. Between edits, the session has the last text, if that text is short.
+        # This session finds the levels and the paragraph boundaries of a text, even if the tables have been
+        # closed. Between edits, it keeps the last text, if that text is short.
         self._sample = Session("", _MOST_COLUMNS, flags(Options, options, "options") | Options.NOBREAK, tables=tables)
         self._sample_length: Optional[int] = 0  # (`None` if it is not known)
-        # While these tables are open, finding the levels of a short paragraph with them takes half as long as with `_sample`.
+        # While these tables are open, finding the levels of a short paragraph with them takes half as long as
+        # with `_sample`.
         self._tables, self._direction = tables or default_tables(), int(options & _DIRECTIONS)
         # The advances of each paragraph, as arrays of `uint32_t`.
         self._advances: list[bytes] = []
-        # The number, the start and the text of the paragraph that the last edit has made, and the length of the whole text. `None` if the
-        # edit has made several paragraphs, or a long one. Most edits are in the same paragraph as the edit before.
+        # The index, the start and the text of the paragraph that the last edit made, and the length of the
+        # session's text. `None` if the edit made several paragraphs, or a long one. This is kept because most
+        # edits are in the same paragraph as the edit before.
         self._recent: Optional[tuple[int, int, str, int]] = None
         self._measure = measure
         with self._handle.lock:
@@ -431,7 +433,7 @@ class Session:
         """
         data = deleted.encode()
         try:
-            # (`KeyboardInterrupt` is raised after the call during which the key is pressed, so the edit can have been made)
+            # (`KeyboardInterrupt` is raised only after the interrupted call, so the edit may have been made)
             if self.counts.characters == length and self.text(pos, len(text)) == text:
                 get_record(Damage, self._call, library.hordguli_replace, pos, len(text), data, len(data))
                 self._set_advances(start, advances)

@@ -15,7 +15,7 @@ from ._library import UNICODE_VERSION, library
 from ._records import FORMATS, TableFault
 
 _USUAL_CAPACITY = 1000
-# (keeps `errno`, which says why a file cannot be read; other calls do not need it)
+# (keeps `errno`, the reason why a file cannot be read; no other call needs it)
 _open_folder = ctypes.CDLL(library._name, use_errno=True).hordguli_tables_open_folder_version
 _open_folder.restype = library.hordguli_tables_open_folder_version.restype
 _open_folder.argtypes = library.hordguli_tables_open_folder_version.argtypes

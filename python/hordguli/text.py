@@ -98,7 +98,7 @@ def display(
         chosen = flags(Options, direction, "direction")
     if text.isprintable():  # (separators are not)
         return _visual(tables, chosen, text)
-    # (every second piece is a separator)
+    # (pieces at odd indices are separators)
     pieces = _SEPARATORS.split(text)
     return "".join(piece if at % 2 else _visual(tables, chosen, piece) for at, piece in enumerate(pieces))
 

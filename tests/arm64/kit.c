@@ -1,6 +1,6 @@
-/* Tests the C functions that proved code calls, those of c/kit or those of the kit. Both must pass the same
- * checks. Link it with --wrap for malloc, realloc and free. Usage: SET=value EMPTY= kit ARGUMENT .., with any
- * arguments. */
+/* Tests the C functions that proved code calls: those of c/kit, or those of Rattle's own kit, which must pass
+ * the same checks. Link it with one of the two, and with --wrap for malloc, realloc and free. Usage:
+ * SET=value EMPTY= kit ARGUMENT .., with any arguments. */
 #include <errno.h>
 #include <stdbool.h>
 #include <stddef.h>
@@ -34,7 +34,7 @@ static void holds(bool is_so, int line, const char *what) {
     if (!is_so) printf("tests/arm64/kit.c:%d: does not hold: %s\n", line, what);
 }
 
-/* What the last heap call requested, how many blocks there are, and whether calls fail. */
+/* The size that the last heap call requested, the number of allocated blocks, and whether heap calls fail. */
 static size_t requested;
 static long blocks;
 static bool refuses;
@@ -125,7 +125,8 @@ static void heap(void) {
     HOLDS(blocks == 0);
 }
 
-/* Checks a function that copies a text, with buffers that are too short, just long enough, and longer. `asked` calls the function. */
+/* Checks a function that copies a text, with buffers that are too short, just long enough, and longer.
+ * `asked` calls it. */
 static void is_copied(ptrdiff_t (*asked)(const void *, uint8_t *, size_t), const void *which, const char *text) {
     enum { MOST = 300 };
     uint8_t buf[MOST];

@@ -8,7 +8,7 @@ from typing import NamedTuple
 
 VERSIONS = ("15.0", "17.0")
 
-# The classes that LB1 leaves, in the order of `LineClass`.
+# The classes that remain after LB1, in the order of `LineClass`.
 CLASSES = (
     "BK CM CR GL LF NL SP WJ ZW ZWJ B2 BA BB CB HY CL CP EX IN NS OP QU IS NU PO PR SY AL EB EM H2 H3 HL ID JL JT JV RI AK AP AS HH VF VI"
 ).split()
@@ -121,7 +121,7 @@ RULES = [
     # LB24
     Rule("24.02", "(PR | PO)", "×", "(AL | HL)"),
     Rule("24.03", "(AL | HL)", "×", "(PR | PO)"),
-    # LB25. In 15.0, `is_in_number` replaces it for whole numbers.
+    # LB25. In 15.0 with whole numbers, `is_in_number` replaces it.
     Rule("25.0", "(CL | CP | NU)", "×", "(PO | PR)", OLD),
     Rule("25.0", "(PO | PR)", "×", "(OP | NU)", OLD),
     Rule("25.0", "(HY | IS | NU | SY)", "×", "NU", OLD),
@@ -171,7 +171,7 @@ RULES = [
 # LB25 of 15.0 with whole numbers: no line ends inside a sequence that matches.
 NUMBER = "(PR | PO)? (OP | HY)? NU (NU | SY | IS)* (CL | CP)? (PR | PO)?"
 
-# The sets of LineBreakTest.html. Any other name is a line breaking class.
+# The sets that the rules in LineBreakTest.html name. Any other name in a rule is a line breaking class.
 SETS = {
     "EastAsian": lambda c: c.is_wide,
     "OPmEastAsian": lambda c: c.line_class == "OP" and not c.is_wide,

@@ -3,7 +3,7 @@ import random
 
 from reference import CLASSES, Character
 
-# Classes that rules name together. Most characters of a random text are of its theme.
+# Lists of classes that the same rules name. Most characters of a random text are from one such theme.
 THEMES = [
     CLASSES,
     "BK CR LF NL SP ZW WJ GL CM ZWJ AL OP QU QU QU ID".split(),

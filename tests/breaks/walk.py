@@ -98,7 +98,7 @@ STATES_17 = {
 
 MARKS = ("×", "÷", "!")
 
-# For each question: the bases before its position, and the bases after the position that were read before the question is asked.
+# For each question: the bases before its position, and those after it that have been read when it is asked.
 QUESTIONS_17 = {
     "LB15b": ("SP", "QU_Pf"),  # × before ( SP | GL | .. | eot ), otherwise ÷ (LB18)
     "LB15c": ("SP", "IS"),  # ÷ before NU, otherwise × (LB15d)
@@ -108,8 +108,8 @@ QUESTIONS_17 = {
     "LB28a": ("AK", "AS"),  # × before VF, otherwise ÷
 }
 
-# The outcomes other than marks, by the bits: whether the base before the last one is wide, whether the last base is wide and whether it is a
-# future pictograph, and whether the next base is wide.
+# The outcomes other than marks. Each is a function of four bits: whether the base before the last one is
+# wide, whether the last base is wide, whether it is a future pictograph, and whether the next base is wide.
 OUTCOMES_17 = {
     "Unless": lambda was_wide, is_wide, is_pictograph, next_is_wide: "×" if is_pictograph else "÷",  # LB30b
     "Initial": lambda was_wide, is_wide, is_pictograph, next_is_wide: "LB19a" if is_wide else "×",
@@ -353,7 +353,8 @@ class Model:
         symbol = "AL" if symbol in ATTACHED else symbol  # LB10
         found = []
         for was_wide, is_wide, is_pictograph in BITS:
-            # No rule depends on the width of the base before that, or on whether an earlier base is a future pictograph.
+            # No rule depends on the width of the third base from the end, or on a future pictograph before
+            # the last base.
             earlier = {known[number] for number, bits in enumerate(BITS) if bits[1] == was_wide}
             reached = {self.automaton.next(one, symbol, is_wide, is_pictograph) for one in earlier}
             assert len(reached) == 1

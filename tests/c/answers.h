@@ -1,16 +1,16 @@
-/* Compares all that two sessions return. */
+/* Compares the results of all calls on two sessions. */
 #ifndef HORDGULI_ANSWERS_H
 #define HORDGULI_ANSWERS_H
 
 #include "test.h"
 
-/* What the calls have returned: for each call, its name, its arguments, its status and its results. */
+/* A call and its results: its name, its arguments, and its status and output as numbers */
 typedef struct answer {
     const char *call;
     size_t arguments[3], results[4];
 } answer;
 
-/* The maximum number of answers, and of elements of an array */
+/* The maximum number of answers of a session, and of elements of an array that a call fills */
 enum { ANSWERS = 1 << 16, ELEMENTS = 512 };
 
 static answer answers[2][ANSWERS];
@@ -23,7 +23,7 @@ static inline answer *add(answer *to, const char *call, size_t a, size_t b, size
     return next;
 }
 
-/* Adds the elements that a call has stored. */
+/* Adds an answer for each element of an array that a call has stored. */
 static inline void add_elements(answer *to, const size_t *elements, size_t count) {
     for (size_t k = 0; k < count; k++) add(to, "an element", k, 0, 0)->results[0] = elements[k];
 }
@@ -64,7 +64,7 @@ static inline void ask_position(hordguli_session *session, size_t pos, answer *t
     a->results[0] = (size_t)hordguli_utf16_of(session, pos, &a->results[1]);
 }
 
-/* Queries what a line shows, and its runs. */
+/* Adds the shown characters of a line, with their levels and maps, and its runs. */
 static inline void ask_shown(hordguli_session *session, size_t line, hordguli_line_info *info, answer *to) {
     static uint32_t visual[ELEMENTS], ltov[ELEMENTS], vtol[ELEMENTS];
     static uint8_t line_levels[ELEMENTS];
@@ -133,8 +133,7 @@ static inline void ask_offset(hordguli_session *session, size_t offset, answer *
     a->results[1] = position.pos, a->results[2] = position.rest;
 }
 
-/* Makes all calls with all positions, lines, paragraphs and offsets of the text, and with the first one past the
- * end. */
+/* Makes the calls for each position, line, paragraph and offset, and for the first of each past the end. */
 static inline void ask(hordguli_session *session, size_t from, size_t to_pos, answer *to) {
     hordguli_counts counts = {0, 0, 0, 0};
     size_t byte_count = 0;

@@ -116,7 +116,7 @@ static void opened_by_folder(const char *folder) {
     HOLDS(tables.at != NULL);
 }
 
-/* Opens a folder in which one file cannot be read. */
+/* Checks that opening a folder fails if `file` cannot be read, with the error number `why`. */
 static void unread(const char *folder, uint32_t file, int why) {
     hordguli_tables opened = HORDGULI_TABLES_INIT;
     hordguli_table_fault fault = {77, 77, 77};
@@ -146,7 +146,7 @@ static void unread_file_sets_errno(const char *folder) {
     HOLDS(rmdir(path) == 0 && remove(name) == 0 && rmdir(made) == 0);
 }
 
-/* Whether all characters have the same properties in two tables. */
+/* Whether two tables have the same properties for each character. */
 static int are_equal(hordguli_tables *one, hordguli_tables *other) {
     enum { PART = 2048 };
     static uint32_t characters[PART];
@@ -161,7 +161,7 @@ static int are_equal(hordguli_tables *one, hordguli_tables *other) {
     return 1;
 }
 
-/* The tables of the built-in image and of the folder's image equal the tables of the files. */
+/* Tables from the built-in image and from the folder's image equal those from the folder's files. */
 static void opened_by_images(const char *folder) {
     static unsigned char image[1 << 18];
     char path[200];
@@ -194,7 +194,7 @@ static void opened_by_images(const char *folder) {
     HOLDS(fault.cause == HORDGULI_CAUSE_TRUNCATED);
 }
 
-/* The base direction of a character and the lines of `ls -v`, by the rules of the tables' version. */
+/* Checks the version of tables, and the base direction of a letter and the lines of `ls -v` by its rules. */
 static void has_rules(hordguli_tables *of, uint32_t wanted_version, uint32_t wanted_base, const char *wanted_lines) {
     static const uint32_t garay[] = {0x10D5A}; /* a letter of Unicode 16.0, of class R */
     char lines[20];
@@ -212,7 +212,7 @@ static void has_rules(hordguli_tables *of, uint32_t wanted_version, uint32_t wan
 static void has_rules_of_15(hordguli_tables *of) { has_rules(of, HORDGULI_UNICODE_15_0, 0, "ls -\nv\n"); }
 static void has_rules_of_17(hordguli_tables *of) { has_rules(of, HORDGULI_UNICODE_17_0, 1, "ls\n-v\n"); }
 
-/* Tables of each version, from the library, from a folder's files and image, and from contents of files. */
+/* Opens tables of each version: built-in ones, a folder's files and image, and the contents of files. */
 static void opened_by_version(const char *folder, const char *folder_17) {
     static const uint32_t unknown[] = {0, 15, 17, 0x100000, 0xF0001, 0x110100, UINT32_MAX};
     static unsigned char image[1 << 18];
@@ -410,7 +410,7 @@ static void changed(void) {
     damaged(&damage, 0, 5, 3, 0, 3, 3);
 }
 
-/* `damage` may be NULL. The errors and the edits are the same. */
+/* `damage` may be NULL: the statuses of the calls and their effect on the text stay the same. */
 static void changed_without_damage(void) {
     IS(hordguli_insert(NULL, 0, "a", 1, NULL), NULL);
     IS(hordguli_insert(&session, 0, NULL, 1, NULL), NULL);
@@ -471,7 +471,7 @@ static void opened_measured(void) {
     hordguli_session_close(&other);
 }
 
-/* The statuses and the damage of the calls on a measured session. tests/c/measured.c tests the lines. */
+/* Tests statuses and damage of calls on a measured session. tests/c/measured.c tests its lines. */
 static void measured(void) {
     hordguli_session other = HORDGULI_SESSION_INIT;
     hordguli_damage damage = {7, 7, 7, 7, 7, 7};
@@ -790,7 +790,7 @@ static void edge_statuses(void) {
     HOLDS(moved == 1 && found.pos == 18 && found.side == AFTER && found.zero == 0);
 }
 
-/* The session that the rows of the next function describe. */
+/* The session that `show` opens, and the macros below check. */
 static hordguli_session shown = HORDGULI_SESSION_INIT;
 
 static void show(const char *content, uint32_t options, uint32_t width) {
@@ -809,14 +809,14 @@ static void caret_is(int at, size_t pos, uint32_t side, size_t line, size_t colu
     holds(caret.level == level && caret.zero == 0, __FILE__, at, "the level of the caret");
 }
 
-/* A stop of the caret: the edge before ('B') or after ('A') a position, and its column. */
+/* An edge on the way of steps, before ('B') or after ('A') a position, and the column of its caret. */
 typedef struct stop {
     size_t pos;
     char side; /* 0 ends a list */
     size_t column;
 } stop;
 
-/* Each step from the first stop leads to the next one. From the last one, there is no step in this direction. */
+/* Checks that steps in a direction lead from each stop to the next, and that the last one ends the line. */
 static void steps_are(int at, uint32_t direction, const stop *stops) {
     hordguli_edge from = edge(stops[0].pos, stops[0].side == 'A' ? AFTER : BEFORE);
     hordguli_caret caret = {7, 7, 7, 7};
@@ -909,7 +909,7 @@ static void edges_where_the_direction_changes(void) {
     ENDS(0, 0, 8, BEFORE);
 }
 
-/* The nearer end of a unit; from its middle, the right end */
+/* `hordguli_nearest_edge` returns the nearer end of a unit, or its right end if both are equally near. */
 static void nearest_edges(void) {
     hordguli_edge found;
     show("a\u6f22\u5b57\u05d0", 0, 80);
@@ -945,7 +945,7 @@ static void nearest_edges(void) {
 }
 
 static void edges_of_clusters(void) {
-    /* a letter and its mark; in visual order, the mark comes after the letter */
+    /* a letter and its mark, with HORDGULI_REORDER_NSM: the letter comes first in visual order */
     show("\u05d0\u05b8\u05d1", HORDGULI_REORDER_NSM, 80);
     CARET(0, BEFORE, 0, 2, 1);
     CARET(1, BEFORE, 0, 2, 1);
@@ -955,7 +955,7 @@ static void edges_of_clusters(void) {
     STEPS(LEFT, {0, 'B', 2}, {2, 'A', 1}, {3, 'A', 0});
     STEPS(RIGHT, {3, 'A', 0}, {2, 'B', 1}, {0, 'B', 2});
     CLUSTERS(0, 2, 3);
-    /* a letter and its mark, which is written before it on the screen */
+    /* a letter and its mark, without HORDGULI_REORDER_NSM: the mark comes first in visual order */
     show("\u05d0\u05b8\u05d1", 0, 80);
     CARET(1, BEFORE, 0, 1, 1);
     CARET(1, AFTER, 0, 1, 1);
@@ -1053,7 +1053,7 @@ static void edges_of_lines(void) {
     EDGE_AT(1, 0, 4, BEFORE);
     ENDS(0, 0, 4, AFTER);
     ENDS(1, 4, 6, BEFORE);
-    /* the same in an RTL paragraph, where the second line is padded; columns count from the shown part */
+    /* the same in an RTL paragraph, whose second line is padded: columns do not count the padding */
     show("\u05d0\u05d1\u05d2\u05d3\u05d4\u05d5", 0, 4);
     OK(hordguli_line(&shown, 1, &info, 0, NULL, NULL, NULL, NULL, NULL));
     HOLDS(info.padding == 2);
@@ -1169,7 +1169,7 @@ static void line_is(int at, size_t line, size_t length, size_t visible, size_t c
 }
 #define LINE(...) line_is(__LINE__, __VA_ARGS__)
 
-/* HORDGULI_SHOW_SPACES: spaces at a line's end have carets as far as they fit. */
+/* HORDGULI_SHOW_SPACES: as many of the spaces at a line's end are shown, with carets between them, as fit. */
 static void spaces_at_line_ends(void) {
     show("abc  ", HORDGULI_SHOW_SPACES, 80);
     LINE(0, 5, 5, 5, 0);
@@ -1178,7 +1178,7 @@ static void spaces_at_line_ends(void) {
     STEPS(RIGHT, {2, 'B', 2}, {3, 'A', 3}, {4, 'A', 4}, {5, 'A', 5});
     EDGE_AT(0, 4, 4, BEFORE);
     ENDS(0, 0, 5, BEFORE);
-    /* each width shows the spaces that fit */
+    /* after a change of the width, the spaces that fit the new width are shown */
     OK(hordguli_set_width(&shown, 4, NULL));
     LINE(0, 5, 4, 4, 0);
     CARET(4, BEFORE, 0, 4, 0);
@@ -1196,7 +1196,7 @@ static void spaces_at_line_ends(void) {
     LINE(0, 3, 2, 2, 0);
     STEPS(RIGHT, {0, 'B', 0}, {1, 'A', 1}, {2, 'A', 2});
     ENDS(0, 0, 3, BEFORE);
-    /* a wrapped line: the spaces do not affect what fits; first one of them fits, and then all */
+    /* a wrapped line: the spaces do not move its end; at width 3 one of them is shown, and at width 5 all */
     show("ab   cd", HORDGULI_SHOW_SPACES, 3);
     LINE(0, 5, 3, 3, 0);
     LINE(1, 2, 2, 2, 0);
@@ -1256,7 +1256,7 @@ static void tab_stops(void) {
     CARET(1, BEFORE, 0, 4, 1);
     CARET(2, BEFORE, 0, 1, 1);
     CARET(3, BEFORE, 0, 0, 1);
-    /* stops are counted from the start of each line, so another width moves them */
+    /* tab stops are counted from the start of each line, so a new line start can change the width of a tab */
     show("ab cd\te", HORDGULI_TAB_WIDTH(4), 80);
     LINE(0, 7, 7, 9, 0);
     OK(hordguli_set_width(&shown, 5, NULL));
@@ -1351,12 +1351,12 @@ static void printed(void) {
     HOLDS(length == 74 + 8 && bytes[0] == ' ' && bytes[73] == ' ' && bytes[74] == '1');
     OK(hordguli_lines_utf8(&session, 3, 0, plain, 0, NULL, &length));
     HOLDS(length == 0);
-    /* laying out and filling are counted, printing is not */
+    /* work counters count laying out and filling, but not printing */
     OK(hordguli_session_work(&session, &works[1]));
     HOLDS(memcmp(&works[0], &works[1], sizeof works[0]) == 0);
 }
 
-/* A text, how it is laid out, and its lines. */
+/* A text, the arguments for `hordguli_layout`, and the lines that it must store. */
 typedef struct page_row {
     const char *text;
     uint32_t options, width, print;
@@ -1434,7 +1434,7 @@ static void laid_out_without_session(void) {
     written = 77;
     IS(hordguli_layout(&tables, 0, 80, SHOWN, "ab\nc", 4, 0, NULL, &written), NO_ROOM);
     HOLDS(written == 5);
-    /* nothing of the earlier, longer text is left */
+    /* a later call with a shorter text stores nothing of the longer one */
     OK(hordguli_layout(&tables, 0, 80, SHOWN, "x", 1, 200, bytes, &written));
     same(bytes, written, "x\n");
     OK(hordguli_layout(&tables, 0, 80, SHOWN, NULL, 0, 0, NULL, &written));
@@ -1699,7 +1699,7 @@ static void directions_are_one_or_refused(void) {
     }
 }
 
-/* The numbers of paragraphs and lines of a text. */
+/* Checks how many paragraphs and lines a text has, in a session and in a measured session. */
 static void has_parts(const char *of, size_t size, uint32_t options, size_t wanted_paragraphs, size_t wanted_lines) {
     hordguli_session other = HORDGULI_SESSION_INIT;
     hordguli_counts counts;
@@ -1828,7 +1828,7 @@ static void without_session(void) {
 
 /* ---- Reasons ---- */
 
-/* Bidi classes, `none` for a class or position that does not exist, and an array of equal classes */
+/* Short names for bidi classes, and for `none` as a class (NC) and as a position (NP) */
 enum {
     L = HORDGULI_BIDI_CLASS_L, R = HORDGULI_BIDI_CLASS_R, AL_ = HORDGULI_BIDI_CLASS_AL, EN = HORDGULI_BIDI_CLASS_EN,
     ES = HORDGULI_BIDI_CLASS_ES, ET = HORDGULI_BIDI_CLASS_ET, AN = HORDGULI_BIDI_CLASS_AN, NSM = HORDGULI_BIDI_CLASS_NSM,
@@ -1875,7 +1875,7 @@ static const struct {
     {"\u202ea(\u202c", 0, 2, {0, NP, 1, NP, NP, NP, NP, {ON, R, R, R, R, R, R, R, R, R, R}, R, 1, 1, R, R, NOT_OTHER, 0}},
     {"\u202ea(\u202c", 0, 3, {0, NP, NP, NP, NP, 2, NP, REMOVED(PDF), R, 1, 1, NC, NC, 0, 0}},
     {"\u202d\u05d0", HORDGULI_RTL, 1, {0, NP, 1, NP, NP, NP, NP, {R, L, L, L, L, L, L, L, L, L, L}, L, 2, 2, L, L, 0, 0}},
-    /* Positions count in the paragraph: the second sequence has only the letter. */
+    /* Positions count from the start of the text, also in the second sequence, which has only the letter. */
     {"\u2067a\u2069(b)", 0, 0, {NP, 2, 0, NP, NP, NP, 3, TO_N(RLI, L), NC, 0, 0, L, L, 0, N1}},
     {"\u2067a\u2069(b)", 0, 1, {0, NP, 1, NP, NP, NP, NP, ALL(L), NC, 1, 2, R, R, 0, 0}},
     {"\u2067a\u2069(b)", 0, 2, {NP, 0, 0, NP, NP, NP, 3, TO_N(PDI, L), NC, 0, 0, L, L, 0, N1}},
@@ -1885,9 +1885,9 @@ static const struct {
     {"\u202b\u05d0\u00ad", HORDGULI_LTR, 0, {NP, NP, NP, NP, NP, NP, NP, REMOVED(RLE), NC, 0, 0, NC, NC, 0, 0}},
     {"\u202b\u05d0\u00ad", HORDGULI_LTR, 2, {0, NP, NP, NP, NP, 1, NP, REMOVED(BN), NC, 1, 1, NC, NC, 0, 0}},
     {"\u2067\u202c\u2069", HORDGULI_LTR, 1, {0, NP, NP, NP, NP, 0, NP, REMOVED(PDF), NC, 1, 0, NC, NC, 0, 0}},
-    /* N0 sets a mark with the bracket before it. */
+    /* N0: a mark after a bracket changes to the bracket's type. */
     {"\u05d0(a)\u0300", HORDGULI_LTR, 4, {NP, NP, 0, 3, NP, NP, NP, {NSM, NSM, ON, ON, ON, ON, ON, ON, ON, L, L}, NC, 0, 0, L, L, 0, 0}},
-    /* W2 to W7, each at its index */
+    /* In each row, one of W2 to W7 changes the type, at that rule's index of `class_after`. */
     {"\u06271", 0, 1, {NP, NP, 0, NP, NP, NP, NP, {EN, EN, EN, AN, AN, AN, AN, AN, AN, AN, AN}, NC, 1, 2, R, R, 0, 0}},
     {"\u0627", HORDGULI_LTR, 0, {NP, NP, 0, NP, NP, NP, NP, {AL_, AL_, AL_, AL_, R, R, R, R, R, R, R}, NC, 0, 1, L, L, 0, 0}},
     {"1+2", HORDGULI_RTL, 1, {NP, NP, 0, NP, NP, NP, NP, {ES, ES, ES, ES, ES, EN, EN, EN, EN, EN, EN}, NC, 1, 2, R, R, 0, 0}},
@@ -1896,7 +1896,7 @@ static const struct {
     {"a1", 0, 1, {NP, NP, 0, NP, NP, NP, NP, {EN, EN, EN, EN, EN, EN, EN, EN, L, L, L}, NC, 0, 0, L, L, 0, 0}},
 };
 
-/* Returns an address at which this program has no memory, for arrays that are too long to be read or written. */
+/* Returns an address at which nothing is mapped, for arrays that a call must refuse without using them. */
 static void *far_away(uintptr_t number) { return (void *)(number << 40); }
 
 static void reasons(void) {
@@ -1913,7 +1913,7 @@ static void reasons(void) {
             fprintf(stderr, "calls.c: row %zu of the reasons\n", k);
         HOLDS(found[count].opener == 0x4D4D4D4D && found[count].neutral == 77);
     }
-    /* BD16: 63 open brackets are paired, and with 64 none is. */
+    /* BD16: 63 nested pairs of brackets are found, but of 64 none is. */
     for (size_t open = 63; open <= 64; open++) {
         for (size_t k = 0; k < 2 * open; k++) text_characters[k] = k < open ? '(' : ')';
         OK(hordguli_reasons(&tables, 0, text_characters, 2 * open, 130, found));
@@ -2050,7 +2050,7 @@ static void properties(void) {
     OK(hordguli_properties(&tables, 0, NULL, NULL));
 }
 
-/* A wide emoji and a nonspacing mark, both of Unicode 18.0: tables of 17.0 do not have them. */
+/* A wide emoji and a nonspacing mark that Unicode 18.0 adds. The tables of 17.0 do not have them. */
 static void widths_are_of_their_version(void) {
     static const uint32_t characters[] = {0x1FACC, 0x5C8};
     hordguli_tables newest = HORDGULI_TABLES_INIT;
@@ -2241,7 +2241,7 @@ static void caret_stays_after_a_final_line_separator(void) {
     }
 }
 
-/* A function with a single array does not skip the array if it is NULL, but stores the required size. */
+/* A function with a single array fails with NO_ROOM if the array is NULL, and stores the required size. */
 static void null_array_is_too_small(void) {
     static const uint32_t characters[] = {'a', 0x5D0};
     static const uint8_t levels[] = {0, 1};

@@ -1,14 +1,14 @@
-/* The definitions of carets, edges, steps, hits and selections in hordguli.h, for the layout of a text. A test fills
- * `text`, `options`, `lines` and `characters`, and calls `find_units`. */
+/* A reference implementation of carets, edges, steps, hits and selections, as hordguli.h defines them. Before
+ * using it, a test fills `text`, `options`, `lines` and `characters`, and calls `find_units`. */
 #ifndef HORDGULI_CARETS_H
 #define HORDGULI_CARETS_H
 
 #include "test.h"
 
-/* The maximum number of characters in a text, and of characters and bytes in a line */
+/* The maximum number of characters and of bytes in a text, and an index that stands for no unit */
 enum { MOST = 120, BYTES = MOST * 4, NONE = MOST + 1 };
 
-/* A character, by its position in the text */
+/* What the layout says about a character. `characters` is indexed by position. */
 typedef struct character {
     size_t line;
     int is_shown;
@@ -19,7 +19,7 @@ typedef struct character {
     size_t unit;         /* the index of the unit that has it, or NONE */
 } character;
 
-/* What a caret moves over */
+/* A caret unit: what one step of the caret passes */
 typedef struct unit {
     size_t line, start, end; /* positions */
     size_t left, right;      /* columns */
@@ -39,7 +39,7 @@ static inline int is_separator(uint32_t c) {
     return c == 0xA || c == 0xD || (c >= 0x1C && c <= 0x1E) || c == 0x85 || c == 0x2029;
 }
 
-/* Bidi class B, or line breaking class BK, CR, LF or NL */
+/* Whether a character has bidi class B, or line breaking class BK, CR, LF or NL */
 static inline int ends_line(uint32_t c) { return is_separator(c) || c == 0xB || c == 0xC || c == 0x2028; }
 
 static inline int starts_next_line(void) { return length == 0 || is_separator(text[length - 1]); }
@@ -53,8 +53,8 @@ static inline int are_together(size_t a, size_t b) {
     return characters[a].cluster == characters[b].cluster && characters[a].line == characters[b].line;
 }
 
-/* Whether a unit begins at a character: whether the character has columns, and no earlier character of its cluster with
- * columns is in the same level run. */
+/* Whether a unit begins at a character: the character has columns, and no earlier character of its cluster
+ * that has columns is in the same level run. */
 static inline int begins_unit(size_t pos) {
     if (!takes_columns(pos)) return 0;
     for (size_t k = 0; k < pos; k++)
@@ -107,11 +107,11 @@ static inline int is_edge(hordguli_edge found, hordguli_edge wanted) {
     return found.pos == wanted.pos && found.side == wanted.side && found.zero == 0;
 }
 
-/* The edges at the left and the right end of a unit: at an even level, its left end comes first. */
+/* The edges at the left and the right end of a unit. At an even level, it starts at the left end. */
 static inline hordguli_edge left_edge(const unit *u) { return u->level % 2 == 0 ? before(u->start) : after(u->end); }
 static inline hordguli_edge right_edge(const unit *u) { return u->level % 2 == 0 ? after(u->end) : before(u->start); }
 
-/* The end of a line in its paragraph's direction */
+/* The caret at the end of a line, in its paragraph's direction */
 static inline hordguli_caret line_end(size_t line) {
     const hordguli_line_info *info = &lines[line];
     return (hordguli_caret){line, info->base == 0 ? info->columns : 0, info->base, 0};
@@ -140,8 +140,8 @@ static inline int reference_caret(hordguli_edge edge, hordguli_caret *caret) {
     return 1;
 }
 
-/* The nearest end of a unit to the left or right of a column, as an edge of the unit that a step passes.
- * Returns 0 if there is none. */
+/* Finds the nearest unit end to the left or right of a column, and stores it as an edge of its unit, which
+ * the step passes. Returns 0 if there is none. */
 static inline int reference_step(size_t line, size_t column, uint32_t direction, hordguli_edge *next) {
     const unit *nearest = NULL;
     for (const unit *u = units; u < units + unit_count; u++) {
@@ -187,8 +187,8 @@ static inline int reference_line_edges(size_t line, hordguli_edge *first, hordgu
 
 /* ---- Hits and selections ---- */
 
-/* The character that covers a column of a line; right of the shown part, the rightmost character that has columns; in a
- * line of width 0, the first character */
+/* The hit at a column of a line: the character that covers the column or, to the right of the shown part, the
+ * rightmost one that has columns. In a line without columns, it is the first character. */
 static inline hordguli_hit reference_hit(size_t line, size_t column) {
     size_t start = lines[line].start, end = start + lines[line].length;
     for (size_t pos = start; pos < end; pos++) {

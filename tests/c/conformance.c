@@ -1,10 +1,11 @@
-/* Prints break marks or lines, as computed by the C library, in the format of the program `conformance`.
- * tests/conformance/run can run it instead of that program. Usage: conformance marks-of FOLDER VERSION, or conformance
- * lines-of FOLDER DIRECTION VERSION. The folder has the table files of this version of Unicode, 15.0 or 17.0. Each line
- * of standard input is a paragraph.
+/* Prints the break marks or lines that the C library finds, in the format of the program `conformance`, so
+ * that tests/conformance/run can run this program instead. Usage: conformance marks-of FOLDER VERSION, or
+ * conformance lines-of FOLDER DIRECTION VERSION. FOLDER has the table files of this version of Unicode, 15.0
+ * or 17.0. Each line of standard input is a paragraph.
  *
- * Each paragraph is laid out in a session, as a single line. In some tests a paragraph contains a separator, at which
- * a session would split it. For these, hordguli_levels finds the levels, and this program applies L1 and L2. */
+ * Each paragraph is laid out in a session, as a single line. Some paragraphs of the tests contain a
+ * separator, at which a session would split them. For these, hordguli_levels finds the levels, and this
+ * program applies L1 and L2. */
 #include "test.h"
 
 enum { MOST = 4096 };

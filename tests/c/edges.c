@@ -1,10 +1,12 @@
-/* Tests carets, steps, hits, selections, words and offsets. Usage: edges FOLDER TEXTS SESSIONS, where FOLDER has the table files.
+/* Tests carets, steps, hits, selections, words and offsets. Usage: edges FOLDER TEXTS SESSIONS, where FOLDER
+ * has the table files.
  *
- * - Lays out TEXTS random texts, and compares each call with a reference implementation: the definition in the header,
- *   computed from the levels, the order and the widths of `hordguli_line` and from the grapheme clusters. With
- *   HORDGULI_SHOW_SPACES, what lines show is computed from their shown parts without this option.
- * - Opens SESSIONS sessions and edits them. Each call must then return what it returns in a new session on the same
- *   text. */
+ * - Lays out TEXTS random texts, and compares each call with a reference implementation of its definition in
+ *   the header. The reference works from the levels, order and widths that `hordguli_line` stores, and from
+ *   grapheme clusters. With HORDGULI_SHOW_SPACES, the expected shown parts are those without this option, and
+ *   the spaces after them that fit.
+ * - Opens SESSIONS sessions and edits them. Each call must then return the same results as in a new session
+ *   on the same text. */
 #include "answers.h"
 #include "carets.h"
 
@@ -116,7 +118,7 @@ static void clusters_are_ordered(hordguli_session *session, uint32_t width) {
     hordguli_session_close(&by_l2);
 }
 
-/* Each column of a line is in one unit. */
+/* Each column of a line is in exactly one unit. */
 static void units_tile_lines(void) {
     for (size_t line = 0; line < line_count; line++) {
         size_t columns = 0;
@@ -128,9 +130,9 @@ static void units_tile_lines(void) {
 
 /* ---- Shown spaces ---- */
 
-/* Compares the lines with those of a session without HORDGULI_SHOW_SPACES. The lines of both sessions start at the same
- * positions. Each shown part has, in addition, as many of the spaces that follow it as fit. All spaces of Unicode's
- * tables are U+0020. */
+/* Compares the lines with those of a session without HORDGULI_SHOW_SPACES, which must start at the same
+ * positions. With the option, each shown part has, in addition, as many of the spaces that follow it as fit.
+ * In Unicode's tables, only U+0020 has the class SP. */
 static void shown_spaces_are_right(uint32_t width) {
     hordguli_session session = HORDGULI_SESSION_INIT;
     hordguli_counts counts;
@@ -166,7 +168,7 @@ static size_t reference_clusters(size_t line, size_t ends[MOST]) {
     return count;
 }
 
-/* No call returns the edge after a character that ends a line. */
+/* Checks that an edge is not the one after a character that ends a line, which no call returns. */
 static void is_inside_line(hordguli_edge edge) {
     HOLDS(edge.side == HORDGULI_BEFORE || (edge.pos > 0 && !ends_line(text[edge.pos - 1])));
 }
@@ -177,7 +179,7 @@ static hordguli_caret caret_of(hordguli_session *session, hordguli_edge edge) {
     return caret;
 }
 
-/* Whether a column of a line is a boundary */
+/* Whether a column is an end of a unit of the line; if the line has no columns, whether it is column 0 */
 static int is_boundary(size_t line, size_t column) {
     if (line == line_count || lines[line].columns == 0) return column == 0;
     for (const unit *u = units; u < units + unit_count; u++)
@@ -218,7 +220,7 @@ static void carets_and_steps_are_right(hordguli_session *session) {
         OK(hordguli_edge_caret(session, edge, &caret));
         HOLDS(memcmp(&caret, &wanted, sizeof caret) == 0);
         if (edge.side == HORDGULI_BEFORE) {
-            /* the character's own edge: inside its unit, if the unit is kept in logical order at an odd level */
+            /* the character's own edge, inside the unit if this is in logical order at an odd level */
             const character *c = &characters[edge.pos];
             hordguli_caret own = wanted;
             if (edge.pos < length && c->is_shown && (options & HORDGULI_REORDER_CLUSTERS) != 0)
@@ -231,7 +233,7 @@ static void carets_and_steps_are_right(hordguli_session *session) {
     }
 }
 
-/* From one end of a line, repeated steps reach each boundary once. */
+/* Repeated steps from one end of a line to the other reach each boundary once. */
 static void steps_meet_each_boundary(hordguli_session *session, size_t line, uint32_t direction) {
     size_t columns = line < line_count ? lines[line].columns : 0, met = 0, boundaries = 0;
     hordguli_edge edge;
@@ -316,7 +318,7 @@ static char word_class(uint32_t c) {
     return '?';
 }
 
-/* Returns whether there is a word boundary between two characters: 1, 0, or -1 if that depends on other
+/* Returns 1 if there is a word boundary between two characters, 0 if not, and -1 if that depends on other
  * characters. */
 static int word_boundary(uint32_t a, uint32_t b) {
     char left = word_class(a), right = word_class(b);
@@ -412,7 +414,7 @@ static void texts_are_right(long count) {
 
 /* ---- Sessions, compared with new ones ---- */
 
-/* Makes a random edit, in the session and in `text`. Half of the edits have no damage. */
+/* Makes a random edit, in the session and in `text`. Half of the edits pass NULL for `damage`. */
 static void edit(hordguli_session *session, uint32_t *width) {
     hordguli_damage damage = {0}, *out = below(2) == 0 ? NULL : &damage;
     uint32_t piece[10];

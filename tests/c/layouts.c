@@ -1,8 +1,8 @@
 /* Compares hordguli_layout with the printed lines of a session, for random texts, options, widths and print flags. Usage:
- * layouts FOLDER TEXTS [CASES]. FOLDER has the table files. Writes some of the texts to the folder CASES, each with the
- * arguments of the command and the bytes that the command has to print. Unless it is linked with the shared library, link it
- * with --wrap=malloc, --wrap=realloc and --wrap=free and define WRAPPED, to count allocations and the memory that a handle
- * keeps. */
+ * layouts FOLDER TEXTS [CASES]. FOLDER has the table files. Writes some of the texts to the folder CASES,
+ * each with arguments for the command and the output that the command must then print. To count allocations
+ * and the memory that a handle keeps, define WRAPPED and link the test with the archive and with
+ * --wrap=malloc, --wrap=realloc and --wrap=free. */
 #include "test.h"
 
 enum { MOST = 400, BYTES = 1 << 25, STORED = 300, KEPT = 5000000 };
@@ -12,7 +12,7 @@ enum { MOST = 400, BYTES = 1 << 25, STORED = 300, KEPT = 5000000 };
 static hordguli_tables tables = HORDGULI_TABLES_INIT;
 static char text[MOST * 16], page[BYTES], lines[BYTES];
 
-/* A text, and how it is laid out. */
+/* The arguments of a call of `hordguli_layout` */
 typedef struct request {
     uint32_t options, width, print;
     const char *text;
@@ -23,7 +23,7 @@ static hordguli_status lay_out(const request *r, size_t capacity, char *buffer, 
     return hordguli_layout(&tables, r->options, r->width, r->print, r->text, r->length, capacity, buffer, written);
 }
 
-/* A random text of at most `most` pieces, most of which are of a few kinds. */
+/* Returns a random request, with a text of at most `most` pieces, most of which are of a few kinds. */
 static request random_request(size_t most) {
     static const uint32_t prints[] = {HORDGULI_PRINT_DEFAULT, 1, 2, 16, 0};
     size_t pieces = below(most + 1), kinds = 1 + below(8), length = 0;
@@ -43,7 +43,7 @@ static request random_request(size_t most) {
     return r;
 }
 
-/* Prints all lines of a session on the text. */
+/* Stores in `lines` what a session on the text prints, and returns the number of bytes. */
 static size_t session_lines(const request *r) {
     hordguli_session session = HORDGULI_SESSION_INIT;
     hordguli_counts counts;
@@ -55,7 +55,7 @@ static size_t session_lines(const request *r) {
     return length;
 }
 
-/* Compares a layout with the lines of a session, including with a buffer that is one byte too small and with none. */
+/* Compares a layout with the lines of a session. Also tries a buffer that is one byte too small, and none. */
 static void is_page_of_session(const request *r) {
     size_t wanted = session_lines(r), written = 77;
     memset(page, '?', wanted + 1);
@@ -136,7 +136,7 @@ void __wrap_free(void *block) {
     __real_free(block);
 }
 
-/* Repeated calls allocate nothing. `line_separators` is an option that all of them have, or 0. */
+/* Repeated calls allocate nothing. All of them have the option `line_separators`, unless it is 0. */
 static void warm_calls_allocate_nothing(uint32_t line_separators) {
     uint64_t start = seed;
     for (int round = 0; round < 2; round++) {
@@ -145,7 +145,7 @@ static void warm_calls_allocate_nothing(uint32_t line_separators) {
         seed = start;
         for (int k = 0; k < 1000; k++) {
             request r = random_request(below(2) == 0 ? 60 : 8);
-            /* (after a call that prints much, no buffer is kept) */
+            /* (a handle keeps no buffer after a call that prints much) */
             if (r.width == 65535) r.width = 90;
             r.options = (r.options & ~HORDGULI_LINE_SEPARATORS) | line_separators;
             OK(lay_out(&r, BYTES, page, &written));

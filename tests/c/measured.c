@@ -1,9 +1,10 @@
 /* Tests measured sessions. Usage: measured FOLDER TEXTS SESSIONS, where FOLDER has the table files.
  *
- * - Rows: examples of each rule.
- * - Edits and measures TEXTS random texts, whose advances the test keeps itself. Compares lines, columns, carets, hits, edges
- *   and selections with a reference implementation: the definitions of docs/reference.md, computed from break marks, levels,
- *   clusters and advances. An edit and the measurement after it may change only the lines in their damage.
+ * - Checks examples of each rule, in rows.
+ * - Edits and measures TEXTS random texts, and keeps a copy of their advances. Compares lines, columns,
+ *   carets, hits, edges and selections with a reference implementation of the definitions in
+ *   docs/reference.md. The reference works from break marks, levels, clusters and advances. An edit and the
+ *   measurement after it may change only the lines in their damage.
  * - Edits SESSIONS sessions whose advances are the columns of their characters. Each session must return what a session
  *   that is not measured returns. */
 #include "answers.h"
@@ -209,7 +210,7 @@ static void without_advances_a_text_has_no_columns(void) {
     HOLDS(count == 0);
 }
 
-/* The glyph of `ffi` has its advance at the first letter. */
+/* The first letter of `ffi` has the advance of the ligature. */
 static void a_ligature_ends_a_line(void) {
     OPEN("ab ffi", 0, 60, 10, 10, 10, 30, 0, 0);
     HOLDS(has_lines(1) && is_line(0, 0, 6, 60));
@@ -226,7 +227,7 @@ static void a_ligature_ends_a_line(void) {
     HOLDS(has_lines(1) && is_line(0, 0, 4, 35) && has_caret(2, 0, 20) && has_caret(3, 0, 0) && has_hit(0, 0, 2, 0));
 }
 
-/* There is a break opportunity after the space, to which the mark belongs. */
+/* A space and a mark are one cluster, but there is a break opportunity between them. */
 static void a_line_may_end_inside_a_cluster(void) {
     hordguli_cluster cluster = {0, 0};
     OPEN("aa \u0301bb", 0, 25, 10, 10, 10, 5, 10, 10);
@@ -330,13 +331,13 @@ static size_t random_text(uint32_t *into, size_t most) {
 
 static uint32_t random_options(void) { return (uint32_t)below(128) | HORDGULI_TAB_WIDTH(below(3) == 0 ? 1 + below(255) : 0); }
 
-/* A width in columns, with columns of `scale` units */
+/* Returns a random width, in most cases of up to 12 columns. A column has `scale` units. */
 static uint32_t random_width(void) {
     size_t found = 1 + below(below(3) == 0 ? (size_t)scale * 60 : (size_t)scale * 12);
     return found > INT32_MAX ? INT32_MAX : (uint32_t)found;
 }
 
-/* Advances that are equal, 0 at some or all characters, large, or like those of glyphs for several characters */
+/* Stores random advances: equal, large, 0 at some or all characters, or as of ligatures. */
 static void random_advances(uint32_t *into, size_t count) {
     size_t kind = below(7), equal = below(3 * (size_t)scale);
     for (size_t k = 0; k < count; k++) {
@@ -352,7 +353,7 @@ static void random_advances(uint32_t *into, size_t count) {
 
 /* ---- The reference implementation ---- */
 
-/* What is known about each character of the text */
+/* The break mark, level and properties of each character of the text */
 static uint8_t marks[MOST], levels[MOST];
 static hordguli_character properties[MOST];
 static size_t order[MOST]; /* the shown characters of each line from its start on, from left to right */
@@ -368,7 +369,7 @@ static int may_trail(size_t k) {
     return c == ' ' || (c >= 0xA && c <= 0xD) || c == 0x85 || c == 0x2028 || c == 0x2029;
 }
 
-/* The columns of a character that has `columns` columns before it on its line */
+/* The columns of character `k`, if `columns` columns are before it on its line */
 static size_t columns_at(size_t columns, size_t k) {
     if (text[k] != '\t' || (options & TAB_BITS) == 0) return advances[k];
     return advances[k] == 0 ? 0 : advances[k] - columns % advances[k];
@@ -421,7 +422,7 @@ static void reset_levels(size_t start, size_t end, uint32_t base) {
     }
 }
 
-/* L2; the order of marks and clusters, which L2 does not know, is that of the session. */
+/* Orders the shown characters by L2, or as the session does if an option orders marks or clusters. */
 static void put_in_order(size_t line) {
     size_t start = lines[line].start, end = start + lines[line].shown;
     uint32_t vtol[MOST];
@@ -578,7 +579,7 @@ static void columns_are_right(int has_units) {
     }
 }
 
-/* Lines are not padded, and tabs are written unchanged. */
+/* Checks that printed lines are not padded, and that their tabs are written unchanged. */
 static void print_is_right(void) {
     static char expected[PRINTED], found[PRINTED];
     size_t size = 0, written = 0;
@@ -611,7 +612,7 @@ static int are_too_wide(const uint32_t *own, size_t start, size_t end) {
     return sum > UINT32_MAX;
 }
 
-/* Whether the advances of a paragraph add up to more than 2^32 - 1 */
+/* Whether the advances of any paragraph add up to more than 2^32 - 1 */
 static int has_wide_paragraph(void) {
     for (size_t start = 0, end; start < length; start = end) {
         end = end_of_paragraph(start);
@@ -630,7 +631,7 @@ static void keep(void) {
     kept_length = length;
 }
 
-/* Whether a call was accepted. Restores the text and the advances if it had to be refused. */
+/* Checks a status. Returns 1 if the call was accepted, or restores the text and the advances. */
 static int is_accepted(hordguli_status status) {
     int is_wide = has_wide_paragraph();
     HOLDS(status == (is_wide ? HORDGULI_PARAGRAPH_TOO_LONG : HORDGULI_OK));
@@ -668,7 +669,7 @@ static int edit(hordguli_damage *damage) {
     return is_accepted(status);
 }
 
-/* Stores where the new paragraphs of an edit start, and their length. */
+/* Stores where the new paragraphs of an edit start, and how many characters they have together. */
 static void find_new(hordguli_session *of, const hordguli_damage *damage, size_t *start, size_t *count) {
     hordguli_paragraph_info info;
     *start = *count = 0;
@@ -679,7 +680,7 @@ static void find_new(hordguli_session *of, const hordguli_damage *damage, size_t
     }
 }
 
-/* Edits, and then measures the new paragraphs, or only a part of them. */
+/* Makes a random edit, and then sets the advances of its new paragraphs, or of a part of them. */
 static void edit_and_measure(const snapshot *then) {
     static snapshot between, now;
     hordguli_damage edited = {7, 7, 7, 7, 7, 7}, measured = {7, 7, 7, 7, 7, 7};

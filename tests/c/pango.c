@@ -1,6 +1,6 @@
-/* Compares where lines start with Pango's layout of the same text, with the advances that Pango measures, and times
- * both. tests/c/pango runs it. Usage: pango < TEXTS. Each line of TEXTS is a width in pixels, a space and a text
- * without separators.
+/* Compares where lines start in a session and in Pango's layout of the same text, with the advances that
+ * Pango measures, and measures the times of both. tests/c/pango runs it. Usage: pango < TEXTS. Each line of
+ * TEXTS is a width in pixels, a space and a text without separators.
  *
  * Prints a line for each text: `same` and the number of lines, or `differ` and four numbers about the first line that starts
  * elsewhere:
@@ -9,14 +9,16 @@
  *   - 1 if there is a break opportunity here where Pango's line starts, else 0
  *   - 1 if there is a break opportunity in Pango where our line starts, else 0
  *
- * The last line begins with `times`. Then come six times in nanoseconds, each for all texts together, and the number of
- * texts for which shaping gives Pango's advances, before and after the edit. Each time is the minimum of several runs.
- * An edit inserts a letter in the middle and deletes it. The times are for:
- *   - two changes of the width here, and in Pango until the lines are known
+ * The last line begins with `times`. Then come six times in nanoseconds, and the number of texts for which
+ * shaping gives Pango's advances, before, during and after the edit. Each time is a sum over the texts, with
+ * the minimum of several runs for each. An edit inserts a letter in the middle and deletes it. The times are
+ * for:
+ *   - two changes of the width here
+ *   - two changes of the width in Pango, until the lines are known
  *   - an edit here, with advances that are known
- *   - the same, but HarfBuzz first shapes, with Pango's fonts, the text between the spaces around the changed
- *     characters, levels, fonts and scripts
- *   - the same, but HarfBuzz shapes the whole paragraph
+ *   - an edit here, after HarfBuzz has shaped, with Pango's fonts, the text between the spaces around the
+ *     changed characters, levels, fonts and scripts
+ *   - an edit here, after HarfBuzz has shaped the whole paragraph
  *   - an edit in Pango, which shapes the whole paragraph, until the lines are known */
 #include "test.h"
 
@@ -43,7 +45,7 @@ static hb_font_t *fonts[MOST_FONTS]; /* of Pango, first the font of the descript
 static size_t font_count;
 static hb_buffer_t *buffer;
 
-/* What a caller that shapes text keeps. */
+/* What a caller that shapes text itself keeps: its characters, and their styles and advances */
 static hb_codepoint_t characters[MOST];
 static Style styles[MOST];
 static uint32_t shaped[MOST];
@@ -64,8 +66,8 @@ static void add_font(PangoFont *font) {
     fonts[font_count++] = hb_font_reference(added);
 }
 
-/* Stores the advances in a layout of one line, and its fonts. The first character of a cluster has the advance of its
- * glyphs. */
+/* Stores the advances of the characters in a layout of one line, and adds its fonts to `fonts`. The first
+ * character of a cluster has the advance of the cluster's glyphs. */
 static void find_advances(PangoLayout *layout, const char *text, uint32_t *found) {
     pango_layout_set_text(layout, text, -1);
     memset(found, 0, sizeof advances);
@@ -119,7 +121,7 @@ static void set_pango_text(PangoLayout *layout, const char *text) {
     check(pango_layout_get_line_count(layout) > 0, "no lines");
 }
 
-/* Inserts a letter and deletes it, and sets the advances of the paragraph, which has `count` characters. */
+/* Inserts a letter and deletes it, and sets all advances after each edit. `count` is the text's length. */
 static void edit(hordguli_session *session, size_t pos, size_t count) {
     int is_so = hordguli_insert(session, pos, "x", 1, NULL) == HORDGULI_OK;
     is_so = is_so && hordguli_set_advances(session, 0, count + 1, edited_advances, NULL) == HORDGULI_OK;
@@ -134,7 +136,7 @@ static hb_script_t script_of(hb_codepoint_t c, hb_script_t before) {
     return script == HB_SCRIPT_COMMON || script == HB_SCRIPT_INHERITED || script == HB_SCRIPT_UNKNOWN ? before : script;
 }
 
-/* Returns the first font that has a character, and MOST_FONTS for a space. */
+/* Returns the index of the first font that has a character, or MOST_FONTS if none has it or it is a space. */
 static uint32_t font_of(hb_codepoint_t c) {
     hb_codepoint_t glyph;
     if (c == ' ') return MOST_FONTS;
@@ -143,8 +145,8 @@ static uint32_t font_of(hb_codepoint_t c) {
     return MOST_FONTS;
 }
 
-/* Finds the style of each character. As in Pango, a space has the first font in the list of those of its neighbours,
- * within one level and script. */
+/* Finds the style of each character. As in Pango, a space gets the font of a neighbour of the same level and
+ * script: the one that comes first in the list of fonts. */
 static void find_styles(hordguli_session *session, size_t count) {
     static uint8_t levels[MOST];
     hordguli_paragraph_info info;
@@ -165,7 +167,7 @@ static int is_same(const Style *one, const Style *other) {
     return one->script == other->script && one->level == other->level && one->font == other->font;
 }
 
-/* Shapes characters of one style. The first character of a cluster gets the advance of its glyphs. */
+/* Shapes characters of one style. The first character of a cluster gets the advance of all its glyphs. */
 static void shape(size_t first, size_t end, size_t count) {
     const Style *style = &styles[first];
     const hb_glyph_info_t *infos;
@@ -191,9 +193,9 @@ static void shape_all(hordguli_session *session, size_t from, size_t to, size_t 
     check(hordguli_set_advances(session, 0, count, shaped, NULL) == HORDGULI_OK, "cannot measure");
 }
 
-/* After an edit at `pos`, shapes the characters between the nearest spaces around what has changed or, if `is_whole` is
- * set, all characters. The paragraph has `count` characters, of which `added` are new. `added` is -1 if a character was
- * deleted. */
+/* After an edit at `pos`, shapes all characters if `is_whole` is set, and otherwise those between the nearest
+ * spaces around what has changed. The paragraph has `count` characters, of which `added` are new. `added` is
+ * -1 if a character was deleted. */
 static void shape_edited(hordguli_session *session, size_t pos, int added, size_t count, int is_whole) {
     static Style old[MOST];
     size_t from = 0, to = count, old_count = count - (size_t)added, kept = added > 0 ? pos + 1 : pos;
@@ -221,8 +223,8 @@ static void delete_shaped(hordguli_session *session, size_t pos, size_t count, i
     shape_edited(session, pos, -1, count, is_whole);
 }
 
-/* Checks that the result of an edit equals that of shaping the whole paragraph. Returns whether Pango's advances are
- * the same. */
+/* Checks that shaping after an edit gives the same advances as shaping the whole paragraph. Returns whether
+ * they equal Pango's. */
 static int is_shaped(hordguli_session *session, size_t count, const uint32_t *by_pango) {
     static uint32_t kept[MOST];
     memcpy(kept, shaped, count * sizeof *shaped);
@@ -231,7 +233,7 @@ static int is_shaped(hordguli_session *session, size_t count, const uint32_t *by
     return memcmp(shaped, by_pango, count * sizeof *shaped) == 0;
 }
 
-/* Shapes a text. Returns whether Pango's advances are the same, before, during and after an edit. */
+/* Shapes a text. Returns whether its advances equal Pango's, before, during and after an edit. */
 static int shapes_as_pango(hordguli_session *session, const char *text, size_t count) {
     gunichar *decoded = g_utf8_to_ucs4_fast(text, -1, NULL);
     memcpy(characters, decoded, count * sizeof *characters);
@@ -283,7 +285,7 @@ static void time_text(PangoLayout *layout, const char *text, const char *edited)
     hordguli_session_close(&session);
 }
 
-/* Returns the text with a letter in the middle. */
+/* Returns the text with a letter inserted in the middle. */
 static char *edited_text(const char *text) {
     int byte = (int)(g_utf8_offset_to_pointer(text, g_utf8_strlen(text, -1) / 2) - text);
     return g_strdup_printf("%.*sx%s", byte, text, text + byte);

@@ -58,7 +58,7 @@ static void same_lines(hordguli_session *kept, hordguli_session *anew, const hor
     }
 }
 
-/* Lines whose characters are all shown are rows of their paragraphs. */
+/* For a line whose characters are all shown, `hordguli_row` returns what the session returns. */
 static void lines_are_rows(hordguli_session *session, hordguli_tables *tables, const hordguli_counts *counts,
                            uint32_t options) {
     static uint32_t shown[BYTES], characters[2][BYTES], ltov[2][BYTES], vtol[2][BYTES];
@@ -141,7 +141,7 @@ static void same_places(hordguli_session *kept, hordguli_session *anew, const ho
     }
 }
 
-/* Without a session, a text has the same characters, offsets and clusters as in a session. */
+/* The calls without a session find the same characters, offsets and clusters as the session. */
 static void text_alone_is_that_of_session(hordguli_session *session, const char *bytes, size_t size, size_t count) {
     static uint32_t characters[2][MOST * 4];
     static size_t offsets[MOST * 4], ends[MOST * 4];

@@ -1,5 +1,6 @@
-/* Compares what `hordguli_reasons` and `hordguli_break_reasons` store for random texts with other calls, and checks what
- * the header says of each field. Usage: reasons TEXTS, for this many texts with the tables of each version. */
+/* Compares the records that `hordguli_reasons` and `hordguli_break_reasons` store for random texts with the
+ * results of other calls, and checks what the header states about each field. Usage: reasons TEXTS, for this
+ * many texts with the tables of each version. */
 #include "test.h"
 
 enum { MOST = 400, PIECES = 40, NO_CLASS = 0xFF, CLASSES = 11, OPEN = 63 };
@@ -29,7 +30,7 @@ static int is_initiator(uint8_t class) { return IS_IN(class, BIDI(LRI), BIDI(RLI
 
 static int is_strong(uint8_t class) { return IS_IN(class, BIDI(L), BIDI(R), BIDI(EN), BIDI(AN)); }
 
-/* The direction of a strong class or number for N0 to N2 */
+/* The direction that N0 to N2 give a strong class or a number */
 static uint8_t direction_of(uint8_t class) { return class == BIDI(L) ? BIDI(L) : BIDI(R); }
 
 static uint8_t direction_of_level(uint8_t level) { return level % 2 == 0 ? BIDI(L) : BIDI(R); }
@@ -39,7 +40,7 @@ static int is_removed(size_t k) { return reasons[k].sequence == NO_POSITION; }
 /* Returns whether a position exists and is below a bound. */
 static int is_below(uint32_t position, size_t bound) { return position != NO_POSITION && position < bound; }
 
-/* X1 to X8: the embedding, override or isolate that a character is in. A separator in one has the base level. */
+/* X1 to X8: the embedding, override or isolate of a character. A separator in it has the base level. */
 static void opener_is_right(size_t k) {
     const hordguli_reason *reason = &reasons[k];
     uint8_t wanted = NO_CLASS;
@@ -84,7 +85,7 @@ static void sequence_is_right(size_t k) {
     HOLDS((reason->sos == BIDI(L) || reason->sos == BIDI(R)) && (reason->eos == BIDI(L) || reason->eos == BIDI(R)));
 }
 
-/* The classes after X8, W1 to W7, N0 and N2, and the level of I1 and I2 */
+/* The classes after X8, each of W1 to W7, N0 and N2, and the level after I1 and I2 */
 static void classes_are_right(size_t k) {
     const hordguli_reason *reason = &reasons[k];
     const uint8_t *after = reason->class_after;
@@ -103,7 +104,7 @@ static void classes_are_right(size_t k) {
     HOLDS(reason->level == level + (level % 2 == 0 ? (class == BIDI(R) ? 1 : class == BIDI(L) ? 0 : 2) : class != BIDI(R)));
 }
 
-/* N0: a pair of brackets, and the strong character inside that decides */
+/* N0: a pair of brackets, and the strong character between them that determines their direction */
 static void pair_is_right(size_t k) {
     const hordguli_reason *reason = &reasons[k], *partner;
     uint8_t embedding = direction_of_level(reason->embedding_level);
@@ -182,7 +183,7 @@ static void bracket_is_right(size_t k) {
     if (reason->bracket_case == 0 || reason->partner == NO_POSITION) HOLDS(reason->inside == NO_POSITION);
 }
 
-/* N1 and N2: the characters around a run of neutrals, and what they decide */
+/* N1 and N2: the characters around a run of neutrals, which determine its direction */
 static void neutral_is_right(size_t k) {
     const hordguli_reason *reason = &reasons[k];
     uint8_t before = reason->sos, after = reason->eos;
@@ -236,7 +237,7 @@ static void levels_have_reasons(uint32_t direction) {
 
 /* ---- Break marks ---- */
 
-/* Returns the position of the nearest base before and at a base that is not a space. */
+/* Returns the position of the last base up to `start` that is not a space, or NO_POSITION. */
 static uint32_t behind_spaces(size_t start) {
     while (breaks[start].class_before == LINE(SP)) {
         if (start == 0) return NO_POSITION;

@@ -1,7 +1,8 @@
 /* Makes each allocation fail in turn. A call whose allocation fails must return NO_MEMORY and change nothing. The same
- * call must then succeed when its allocations do. At the end, all memory must be freed. A file that cannot be read sets
- * errno, even if `free` and `close` change it. Usage: refuse FOLDER, where FOLDER has small table files. Link it with
- * --wrap=malloc, --wrap=realloc, --wrap=free and --wrap=close. */
+ * call must then succeed if no allocation fails. At the end, all memory must be freed. If a file cannot be
+ * read, errno must have the error of that call, even if `free` and `close` change errno. Usage: refuse
+ * FOLDER, where FOLDER has small table files. Link it with --wrap=malloc, --wrap=realloc, --wrap=free and
+ * --wrap=close. */
 #include "test.h"
 
 #include <errno.h>
@@ -176,16 +177,16 @@ static hordguli_status step(int k) {
 static int opens_session(int k) { return k == OPEN || k == OPEN_MEASURED; }
 static int edits(int k) { return k == INSERT || k == REPLACE || k == DELETE || k == JOIN; }
 
-/* Whether a call may keep buffers even if it fails. The first edit of a session makes its buffers. */
+/* Whether a call may keep buffers even if it fails. A session's first edit allocates its edit buffers. */
 static int keeps_buffers(int k) {
     return k == LAYOUT || k == WIDTH || k == ADVANCES || k == MEASURED_WIDTH || opens_session(k) || edits(k);
 }
 
-/* Whether a call may free memory even if it fails: the lists of a paragraph that an earlier edit has replaced, or the
- * buffers that the tables lent to a session that was not opened */
+/* Whether a call may free memory even if it fails: an edit, the lists of a paragraph that an earlier edit
+ * replaced; an opening, the buffers that the tables lend to the new session */
 static int frees_buffers(int k) { return opens_session(k) || edits(k); }
 
-/* A folder in place of a file can be opened, but not read, so the call must close it. */
+/* If a folder is in place of a file, the call can open it, but not read it, and must close it. */
 static void unread_file_sets_errno(void) {
     char made[] = "/tmp/refuse-XXXXXX", file[] = "/tmp/refuse-XXXXXX/DerivedBidiClass.txt";
     HOLDS(mkdtemp(made) != NULL);

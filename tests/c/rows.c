@@ -89,7 +89,7 @@ static void reset(row *r, const hordguli_character *records, const uint8_t *leve
     }
 }
 
-/* Reverses, in visual order, each maximal sequence of one cluster at one odd level. */
+/* Reverses, in visual order, each maximal sequence of characters of one cluster at one odd level. */
 static void order_clusters(row *r, const uint32_t *characters, size_t count) {
     char classes[MOST];
     for (size_t k = 0; k < count; k++) classes[k] = cluster_class(characters[k]);

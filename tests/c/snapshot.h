@@ -1,4 +1,4 @@
-/* The lines of a session before and after a call, for testing which lines changed. Include it after test.h. */
+/* Snapshots of a session's lines, for testing which lines a call changes. Include it after test.h. */
 #ifndef SNAPSHOT_H
 #define SNAPSHOT_H
 
@@ -43,15 +43,15 @@ static int is_same_line(const snapshot *then, size_t old, const snapshot *now, s
     return memcmp(&then->lines[old], &now->lines[new], sizeof then->lines[old]) == 0;
 }
 
-/* From line `first` on, `old` lines became `new` lines, and all other lines are as they were. */
+/* Checks that `old` lines from line `first` on became `new` lines, and that all other lines are unchanged. */
 static void lines_were_replaced(const snapshot *then, const snapshot *now, size_t first, size_t old, size_t new) {
     if (!HOLDS(first + old <= then->count && now->count == then->count - old + new)) return;
     HOLDS(memcmp(then->lines, now->lines, first * sizeof *then->lines) == 0);
     HOLDS(memcmp(then->lines + first + old, now->lines + first + new, (now->count - first - new) * sizeof *then->lines) == 0);
 }
 
-/* The changed lines are those of the damage, without the longest run of unchanged lines at its start, and then without
- * the longest such run at its end. */
+/* Checks the changed lines: those in the damage, without as many unchanged lines as possible at its start,
+ * and then at its end. */
 static void changed_lines_are_right(hordguli_session *of, const snapshot *then, const snapshot *now, const hordguli_damage *damage) {
     hordguli_changed changed = {7, 7, 7};
     size_t before = 0, after = 0, first = damage->first_line, old = damage->old_lines, new = damage->new_lines;

@@ -5,8 +5,8 @@
  * - Each field of each struct is at its expected offset, and receives the right value. Parameters of the same type are
  *   not swapped.
  * - If two errors of a call apply, the call returns the one that the header lists first, and changes nothing. The call
- *   returns the same error if every allocation fails, unless the header lists NO_MEMORY first. (tests/c/refuse.c makes
- *   each allocation of a call without other errors fail.) */
+ *   returns the same error if every allocation fails, unless the header lists NO_MEMORY first. (In calls
+ *   without other errors, tests/c/refuse.c makes each allocation fail.) */
 #include "test.h"
 
 #include <stddef.h>
@@ -244,8 +244,8 @@ static hordguli_status read_files(hordguli_tables *none, const char *const lines
     return hordguli_tables_read(none, files, fault);
 }
 
-/* A line of one of the first four files is malformed in the other three. Each of the last three files changes one
- * break mark. */
+/* Each of the first four files has a line that would be malformed in the other three. Each of the last three
+ * files changes one break mark. */
 static void files_have_their_indexes(void) {
     static const char *const own_lines[7] = {
         "0041;EN\n",
@@ -437,7 +437,7 @@ static void edges_have_each_value_in_their_field(void) {
     size_t ends[8] = {0}, count = 77;
     static const size_t cluster_ends[7] = {2, 4, 5, 6, 7, 8, 9};
     reopen(&session, mixed, 8);
-    /* after the space, which is at an odd level; the number before it is at an even level */
+    /* the edge after the space, whose level is odd; the level of the number before it is even */
     OK(hordguli_edge_caret(&session, edge, &caret));
     HOLDS(caret.line == 3), HOLDS(caret.column == 2), HOLDS(caret.level == 1), HOLDS(caret.zero == 0);
     OK(hordguli_step(&session, edge, 0, &first, &moved));
@@ -699,8 +699,8 @@ enum {
 
 typedef struct call call;
 
-/* A way to make errors apply, with a variant for each `which` from `first` to `last`. `errors` lists items of the
- * call's own list. */
+/* A way to provoke errors, with one variant for each `which` from `first` to `last`. `errors` lists the
+ * errors that apply, by their names in the call's own list. */
 typedef struct way {
     const char *errors;
     uint32_t sets;
@@ -750,7 +750,7 @@ static void write_file(size_t file, const char *content) {
         __VA_ARGS__;                                                                                                   \
     }
 
-/* NULL, and closed or open handles */
+/* Pointers that are NULL, and handles that are closed although they must be open, or the reverse */
 WAY(null_tables, a->tables = NULL)
 WAY(null_session, a->session = NULL)
 WAY(null_out, a->out = NULL)
@@ -792,7 +792,7 @@ WAY(array_at_other, a->arrays[which / 5] = a->arrays[which % 5 == which / 5 ? (w
 WAY(array_at_other_of_4, a->arrays[which / 4] = a->arrays[which % 4 == which / 4 ? (which + 1) % 4 : which % 4])
 WAY(array_at_first, a->arrays[1] = (char *)a->arrays[0] + a->capacity - 1)
 WAY(long_arrays, a->capacity = which == 0 ? (size_t)PTRDIFF_MAX + 1 : SIZE_MAX)
-/* the size of one array in bytes exceeds SIZE_MAX, and wraps around to 4 or 8 */
+/* the size of one array in bytes exceeds SIZE_MAX; in `size_t`, it wraps around to 4 or 8 */
 WAY(wrapping_array, {
     a->capacity = SIZE_MAX / (which == 4 ? sizeof(size_t) : 4) + 2;
     for (size_t k = 0; k < 5; k++) a->arrays[k] = k == which ? a->arrays[k] : NULL;
@@ -834,7 +834,7 @@ WAY(not_a_character, static const uint32_t wrong[] = {0xD800, 0xDFFF, 0x110000, 
     own.characters[which % 2 == 0 ? 0 : c->count - 1] = wrong[which / 2])
 WAY(level_above, own.levels[which % 2 == 0 ? 0 : c->count - 1] = which / 2 == 0 ? 127 : 255)
 WAY(base_above, a->base = which == 0 ? 2 : UINT32_MAX)
-/* The array is directly behind the characters, so they do not overlap. A refused call reads and writes neither. */
+/* The array starts where the characters end, so they do not overlap. A refused call accesses neither. */
 WAY(many_positions, a->count = a->capacity = (size_t)UINT32_MAX + which;
     a->arrays[0] = (void *)((uintptr_t)a->characters + 4 * a->count))
 WAY(many_positions_not_a_character, many_positions(a, c, which); own.characters[0] = 0xD800)
@@ -868,7 +868,7 @@ WAY(changed_byte, /* of the magic bytes, the format, the version of Unicode and 
 
 #define END {NULL, 0, NULL, 0, 0}
 
-/* A session and an output parameter, which may be NULL in an edit */
+/* Ways for a session and an output parameter, which may be NULL in an edit */
 #define OF_EDITED_SESSION                                      \
     {"NULL", SESSION | SESSION_IS, null_session, 0, 0},        \
     {"OVERLAP", OUT | SESSION_IS, out_at_session, 0, 0},       \
@@ -878,7 +878,7 @@ WAY(changed_byte, /* of the magic bytes, the format, the version of Unicode and 
 static const way of_edited_session[] = {OF_EDITED_SESSION};
 static const way of_session[] = {{"NULL", OUT | OUT_IS, null_out, 0, 0}, OF_EDITED_SESSION};
 
-/* A second output parameter */
+/* Ways for a second output parameter */
 static const way of_second_out[] = {
     {"NULL", ARRAYS, null_array, 0, 0},
     {"OVERLAP", ARRAYS | OUT_IS, array_at_out, 0, 0},
@@ -886,7 +886,7 @@ static const way of_second_out[] = {
     END,
 };
 
-/* An edge, and a direction */
+/* Ways for an edge, and for a direction */
 #define OF_EDGE                                        \
     {"UNKNOWN_OPTION", FLAGS, unknown_option, 1, 31},  \
     {"OUT_OF_RANGE", AT, at_past_end_alone, 0, 1},     \
@@ -931,7 +931,7 @@ static const way of_set_width[] = {
     END,
 };
 
-/* A session that is not measured */
+/* The way for a session that is not measured */
 static const way of_measured_session[] = {
     {"NOT_MEASURED", SESSION, plain_session, 0, 0},
     END,
@@ -956,7 +956,7 @@ static const way of_set_advances[] = {
     END,
 };
 
-/* Tables, and a text that is laid out */
+/* Ways for tables, and for a text to lay out */
 #define OF_TABLES_AND_TEXT                                                              \
     {"NULL", TABLES | TABLES_IS, null_tables, 0, 0},                                    \
     {"NULL", TEXT, null_text, 1, 2},                                                    \
@@ -1083,7 +1083,7 @@ static const way of_decode[] = {
     END,
 };
 
-/* Characters without tables, and an array of their ends */
+/* Ways for characters in a call without tables, and for the array of the clusters' ends */
 static const way of_clusters[] = {
     {"NULL", NUMBERS, null_characters, 0, 0},
     {"NULL, OVERLAP", NUMBERS | COUNT, many_null_characters, 0, 0},
@@ -1137,7 +1137,7 @@ static const way of_elements[] = {
     END,
 };
 
-/* Records with positions in 32 bits */
+/* Ways for records whose positions have 32 bits */
 #define POSITIONS_FIT "OUT_OF_RANGE (`count` is UINT32_MAX or more)"
 static const way of_reasons[] = {
     {POSITIONS_FIT, COUNT | CAPACITY | ARRAYS, many_positions, 0, 1},
@@ -1153,7 +1153,7 @@ static const way of_records[] = {
     END,
 };
 
-/* The level of each character of a row, and the base level */
+/* Ways for the levels of a row's characters, and for the base level */
 static const way of_row_levels[] = {
     {"NULL", LEVELS, null_levels, 0, 0},
     {"OVERLAP", LEVELS | TABLES_IS, levels_at_tables, 0, 0},
@@ -1337,9 +1337,9 @@ MAKE(row, a->tables, a->flags, a->base, a->count, a->characters, a->levels, a->c
 MAKE(row_runs, a->tables, a->base, a->count, a->characters, a->levels, a->capacity, a->arrays[0], a->out)
 MAKE(properties, a->tables, a->count, a->characters, a->arrays[0])
 
-/* For a handle and an output parameter to overlap, neither may be NULL. */
+/* NULL and OVERLAP cannot both apply to two parameters: if one of them is NULL, they do not overlap. */
 #define NOT_BOTH "NULL + OVERLAP"
-/* If the session is the only pointer that must not be NULL, NULL and CLOSED cannot both apply to a call. */
+/* If only the session must not be NULL, NULL and CLOSED cannot both apply to a call. */
 #define NOT_BOTH_OF_SESSION NOT_BOTH ", NULL + CLOSED"
 #define ORDER_OF_FILE(k) "NULL (file " #k "), OVERLAP (file " #k "), "
 #define ORDER_OF_FILES                                                                                                 \
@@ -1380,7 +1380,7 @@ static const call calls[] = {
          .ways = {of_open, of_measured_width}),
     CALL(insert, INSERTING, .ways = {of_edited_session, of_inserted_text, of_at}, .out_size = sizeof(hordguli_damage),
          .at = 2, .end = 19),
-    /* A deletion makes no paragraph too long if there is no open session or the range is past the end. */
+    /* A deletion can join two paragraphs only in an open session, and with a range inside its text. */
     CALL(delete, "NULL, OVERLAP, CLOSED, OUT_OF_RANGE, PARAGRAPH_TOO_LONG, NO_MEMORY",
          .ways = {of_edited_session, of_range, of_delete}, .out_size = sizeof(hordguli_damage), .at = 2, .count = 3,
          .end = 19, .never = NOT_BOTH_OF_SESSION
@@ -1480,7 +1480,7 @@ static const call calls[] = {
 
 enum { CALLS = sizeof calls / sizeof *calls, MOST = 24 };
 
-/* The items of a list of errors. The list may be NULL. */
+/* The items of a list of errors, none if the list is NULL */
 typedef struct items {
     char words[MOST][64];
     size_t count;
@@ -1500,7 +1500,7 @@ static items items_of(const char *list) {
     return found;
 }
 
-/* Returns some errors as a set of bits. Bit k stands for item k of `order`. */
+/* Returns a list of errors as a set of bits. Bit k stands for item k of `order`. */
 static uint32_t bits_of(const char *errors, const items *order) {
     items some = items_of(errors);
     uint32_t bits = 0;
@@ -1526,8 +1526,7 @@ static hordguli_status status_of(const char *item) {
 
 static const char session_text[] = "abc \u05d0\u05d1\u05d2\n(\u05d0) 12\nx y";
 
-/* The contents of the session: its text, lines, counts and work counters. The contents include the counts and work
- * counters of the long session. */
+/* The session's text, lines, counts and work counters, and the long session's counts and work counters */
 typedef struct content {
     char bytes[200];
     hordguli_counts counts, long_counts;
@@ -1602,8 +1601,8 @@ static arguments good_arguments(const call *c, int is_new) {
     return a;
 }
 
-/* Checks the output that a call sets for its status, and restores the old contents. The caller checks all other
- * memory. */
+/* Checks the output that a call stores with its status, and restores the old contents of that memory. The
+ * caller checks all other memory. */
 static int is_set_as_promised(const call *c, hordguli_status status) {
     int is_set = 1;
     if (status == HORDGULI_NO_ROOM && c->out_size != 0) { /* the required capacity */
@@ -1624,7 +1623,7 @@ static int is_set_as_promised(const call *c, hordguli_status status) {
 }
 
 #ifdef WRAPPED
-/* Whether a call allocates before it finds an error. */
+/* Whether a call allocates before it finds an error, so that a failed allocation is reported first. */
 static int allocates_first(const call *c, hordguli_status error) {
     if (error == HORDGULI_NO_ROOM)
         return c->make == make_lines_utf8 || c->make == make_text || c->make == make_row_runs || c->make == make_line_clusters
@@ -1633,7 +1632,7 @@ static int allocates_first(const call *c, hordguli_status error) {
 }
 #endif
 
-/* Makes a call to which the errors of one or two ways apply, and checks its result. */
+/* Makes a call to which the errors of one or two ways apply, and checks its status and its effects. */
 static void is_refused(const call *c, const items *order, uint32_t bits, const way *x, size_t i, const way *y,
                        size_t j) {
     static int is_new = 1;
@@ -1672,7 +1671,7 @@ static void is_refused(const call *c, const items *order, uint32_t bits, const w
     EXPECT(memcmp(&now, &kept, sizeof now) == 0, "changes no session");
 }
 
-/* Records which error or pair of errors applied to a call. */
+/* Records the error, or the pair of errors, that applied to a call. */
 static void cover(uint32_t covered[MOST], size_t count, uint32_t bits) {
     for (size_t at = 0; at < count; at++)
         for (size_t to = at; to < count; to++)
@@ -1733,7 +1732,7 @@ static void input_arrays_may_overlap(void) {
     }
 }
 
-/* The lists of errors above equal those of the header. */
+/* Checks that the lists of errors above equal those in the header. */
 static void errors_are_those_of_the_header(const char *path) {
     static char header[1 << 17];
     FILE *from = sure(fopen(path, "rb"));
@@ -1785,7 +1784,7 @@ static void pairs(const char *table_folder) {
     sure(mkdtemp(folder));
     for (size_t k = 0; k < 7; k++) write_file(k, "");
     OK(hordguli_tables_open_folder(&own.tables, table_folder, NULL));
-    /* two paragraphs that are too long together */
+    /* two paragraphs that are together longer than a paragraph may be */
     letters[HALF] = '\n';
     OK(hordguli_session_open(&own.long_session, &own.tables, 0, 65535, letters, 2 * HALF + 1));
     letters[HALF] = 'a';

@@ -1,7 +1,8 @@
 /* Tests tab stops. Usage: tabs FOLDER TEXTS, where FOLDER has the table files.
  *
- * Opens sessions on TEXTS random texts with tabs and spaces, changes their width and edits them, and compares each line with
- * a reference implementation: the definitions of docs/reference.md, computed from break marks, clusters and widths. */
+ * Opens sessions on TEXTS random texts with tabs and spaces, changes their width and edits them, and compares
+ * each line with a reference implementation of the definitions in docs/reference.md. The reference works from
+ * break marks, clusters and widths. */
 #include "test.h"
 
 enum { MOST = 120, BYTES = MOST * 4, PRINTED = MOST * 300 };
@@ -14,7 +15,7 @@ static uint32_t text[MOST];
 static size_t length;
 static char bytes[BYTES];
 
-/* What is known about each character of the text */
+/* For each character of the text: its break mark, whether it ends a cluster, and its properties */
 static uint8_t marks[MOST];
 static int ends_cluster[MOST];
 static hordguli_character properties[MOST];
@@ -62,7 +63,7 @@ static int may_trail(size_t k) {
     return c == ' ' || (c >= 0xA && c <= 0xD) || c == 0x85 || c == 0x2028 || c == 0x2029;
 }
 
-/* The columns of character `k` of a line that starts at `start` */
+/* Returns the columns of the character at `k`, on a line that starts at `start`. */
 static size_t columns_to(size_t start, size_t end);
 static size_t columns_of(size_t start, size_t k) {
     return is_tab(k) ? tab_width - columns_to(start, k) % tab_width : properties[k].columns;
@@ -117,7 +118,7 @@ static void look_up(hordguli_session *session) {
 
 /* ---- Comparisons ---- */
 
-/* Adds what a line prints to `into`, and returns the number of bytes. */
+/* Stores the bytes that a line must print, and returns their number. */
 static size_t printed(const hordguli_line_info *info, const uint32_t *visual, const uint32_t *vtol, const size_t *widths, uint32_t print,
                       char *into) {
     size_t size = 0, padding = info->base == 1 && info->columns < width ? width - info->columns : 0;
@@ -145,7 +146,7 @@ static void line_is_right(hordguli_session *session, size_t line, size_t start, 
     for (size_t place = 0; place < info.shown; place++) {
         size_t k = start + vtol[place];
         HOLDS(widths[place] == columns_of(start, k));
-        /* A tab ends at a stop. Even with marks that have columns, the text before a tab determines its columns. */
+        /* A tab ends at a tab stop. The text before it determines its columns, even if marks have columns. */
         if (is_tab(k)) HOLDS((info.base == 0 ? column + widths[place] : info.columns - column) % tab_width == 0);
         column += widths[place];
     }
@@ -171,7 +172,7 @@ static void lines_are_right(hordguli_session *session) {
     HOLDS(counts.lines == line);
 }
 
-/* `hordguli_layout` writes the lines of a session. */
+/* Checks that `hordguli_layout` stores the lines that a session prints. */
 static void layout_is_right(hordguli_session *session) {
     static char expected[PRINTED], found[PRINTED];
     size_t size = 0, written = 0;
@@ -223,7 +224,7 @@ static void texts_are_right(long count) {
 
 /* ---- Options ---- */
 
-/* Bits 8 to 15 are the tab width, in the options of sessions and layouts only. */
+/* Bits 8 to 15 of options are the tab width. Only sessions and layouts accept them. */
 static void options_are_right(void) {
     hordguli_session session = HORDGULI_SESSION_INIT;
     static const uint32_t unknown[] = {128, 128 | HORDGULI_TAB_WIDTH(4), HORDGULI_TAB_WIDTH(256), HORDGULI_TAB_WIDTH(65535),

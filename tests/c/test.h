@@ -1,4 +1,4 @@
-/* Shared by the tests of the C library. */
+/* Checks, random numbers and UTF-8 for the tests of the C library. */
 #ifndef HORDGULI_TEST_H
 #define HORDGULI_TEST_H
 
@@ -45,7 +45,7 @@ static inline void *sure(void *block) {
     return block;
 }
 
-/* Writes characters as UTF-8, and returns the number of bytes. */
+/* Stores characters as UTF-8, and returns the number of bytes. */
 static inline size_t encoded(const uint32_t *from, size_t count, char *into) {
     size_t at = 0;
     for (size_t k = 0; k < count; k++) {

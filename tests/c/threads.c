@@ -1,9 +1,8 @@
 /* Makes the same edits on several threads at the same time, each in its own session. All sessions must end with the
- * same lines. Each thread also lays out the same text without a session, with its own tables: the lines must be the same.
- * Half of the sessions are opened on tables that the threads share, under a lock. Then the threads hand sessions over to
- * each other: each edit of a session is made by any free thread, and the thread that makes the last edit closes the
- * session.
- * Usage: threads FOLDER THREADS CHANGES. */
+ * same lines. Each thread also lays out the same text without a session, with its own tables, and must get
+ * the same lines. Half of the sessions are opened on tables that the threads share, under a lock. Then the
+ * threads hand sessions over to each other: any free thread makes the next edit of a session, and the thread
+ * that makes the last edit closes it. Usage: threads FOLDER THREADS CHANGES. */
 #include "test.h"
 
 #include <pthread.h>
@@ -34,7 +33,7 @@ static hordguli_status open_on_shared(hordguli_session *session) {
     return status;
 }
 
-/* Makes edit `k` of a session, given the state of its random numbers. */
+/* Makes edit `k` of a session. `mixed` is the state of its random numbers. */
 static hordguli_status edit(hordguli_session *session, uint64_t *mixed, long k) {
     static const char *const pieces[] = {"word ", "\u05e9\u05dc\u05d5\u05dd ", "12 ", "\n"};
     hordguli_damage damage;
@@ -47,7 +46,7 @@ static hordguli_status edit(hordguli_session *session, uint64_t *mixed, long k) 
                            &damage);
 }
 
-/* Writes all lines of a session. */
+/* Stores the printed lines of a session. */
 static hordguli_status print(hordguli_session *session, work *at) {
     hordguli_counts counts;
     hordguli_status status = hordguli_session_counts(session, &counts);
@@ -73,7 +72,7 @@ static hordguli_status lay_out_alone(hordguli_session *session, const work *at) 
     return same ? status : -1;
 }
 
-/* Runs one thread. Every other thread uses the shared tables. */
+/* Runs one thread. Every second thread uses the shared tables. */
 static void *run(void *given) {
     work *at = given;
     hordguli_tables tables = HORDGULI_TABLES_INIT;
@@ -102,7 +101,7 @@ typedef struct handed {
     struct handed *next;
 } handed;
 
-/* The sessions that wait for their next edit, and the number of those that are not closed. */
+/* The sessions to hand over, a list of those that wait for an edit, and the number of unclosed ones. */
 static handed sessions[SESSIONS];
 static handed *first, **last = &first;
 static long unclosed;
@@ -126,7 +125,7 @@ static void put(handed *item) {
     pthread_mutex_unlock(&lock);
 }
 
-/* Reads the lines of a session after its last edit, and closes it. */
+/* Compares the lines of a session after its last edit with those of the first thread, and closes it. */
 static void end(handed *item, work *at) {
     item->same = print(&item->session, at) == HORDGULI_OK && at->length == works[0].length
                  && memcmp(at->bytes, works[0].bytes, at->length) == 0;
@@ -136,7 +135,7 @@ static void end(handed *item, work *at) {
     pthread_mutex_unlock(&lock);
 }
 
-/* Makes one edit after another, each in the next session that waits. Opens the session before its first edit. */
+/* Runs one thread: makes the next edit of each session that it takes. Opens a session before edit 0. */
 static void *hand_over(void *given) {
     work *at = given;
     handed *item;

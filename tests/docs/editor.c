@@ -38,7 +38,7 @@ static void open_text(hordguli_tables *tables, uint32_t options, uint32_t width,
 }
 
 static void test_backspace(hordguli_tables *tables) {
-    /* stays left of the Hebrew letters, and not after them */
+    /* the caret stays at the left end of the Hebrew letters, at the position before them */
     open_text(tables, 0, 20, "abc ");
     OK(type("\u05d0\u05d1\u05d2", 6));
     HOLDS(is_at(0, 4));
@@ -46,14 +46,14 @@ static void test_backspace(hordguli_tables *tables) {
         OK(press_backspace());
         HOLDS(is_edge(pos, HORDGULI_AFTER) && is_at(0, 4));
     }
-    /* stays at the end of a wrapped line */
+    /* the caret stays at the end of a wrapped line */
     open_text(tables, 0, 10, "aaaaaaaa  cccc");
     caret = (hordguli_edge){0, HORDGULI_BEFORE, 0};
     OK(press_home_or_end(1));
     HOLDS(is_at(0, 10));
     OK(press_backspace());
     HOLDS(is_at(0, 9));
-    /* deletes a cluster, and goes to the start of a line */
+    /* Backspace deletes a cluster, after which the caret is at the start of its line */
     open_text(tables, 0, 20, "a\u2028e\u0301");
     OK(press_backspace());
     HOLDS(is_edge(2, HORDGULI_BEFORE));

@@ -1,5 +1,5 @@
-/* Makes a chosen call of the C library fail, and counts calls, in a program that preloads it (LD_PRELOAD). Only
- * writes to standard output count.
+/* Makes a chosen call to the C library fail, and counts calls, in a program that preloads this library
+ * (LD_PRELOAD). Ignores writes to files other than standard output.
  *
  * FAULT_CALL  the call that fails: malloc, read, read-table (of a file named .txt), write or open
  * FAULT_AT    the number of the call, from 1

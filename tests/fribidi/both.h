@@ -1,5 +1,5 @@
 /* FriBidi's functions, loaded from libfribidi.so.0 and from our library. Each library has its own dlopen handle, so
- * neither replaces the other's functions. The file also has the 23 types, and pseudorandom numbers. */
+ * neither replaces the other's functions. Also lists the 23 types, and makes pseudorandom numbers. */
 #ifndef TESTS_BOTH_H
 #define TESTS_BOTH_H
 

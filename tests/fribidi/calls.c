@@ -1,6 +1,6 @@
-/* Tests each function through FriBidi's header, including with unusual arguments. Link it with the library. Compiled with -DREFUSES,
- * and linked with --wrap for malloc, realloc and free, it also makes allocations fail: all of them, then all from the
- * second one on, and so on. */
+/* Tests each function that FriBidi's header declares, including with unusual arguments. Link it with our
+ * library. If it is compiled with -DREFUSES and linked with --wrap for malloc, realloc and free, it also
+ * makes allocations fail: all of them, then all from the second one on, and so on. */
 #include <fribidi.h>
 #include <stdint.h>
 #include <stdio.h>

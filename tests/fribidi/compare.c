@@ -1,6 +1,7 @@
-/* Compares FriBidi's functions with the functions of the library OURS, on COUNT random lists of types. Each
- * list has 1 to 200 elements, each of one of the 23 types, some of them brackets, and is resolved in one of the five base
- * directions. Half of the lists have no type that X9 removes. Usage: compare OURS COUNT [SEED].
+/* Compares FriBidi's functions with the functions of the library OURS, on COUNT random lists of types. A list
+ * has 1 to 200 elements. Each of them has one of the 23 types, and some are brackets. The list is resolved in
+ * one of the five base directions. Half of the lists have no type that X9 removes. Usage: compare OURS COUNT
+ * [SEED].
  *
  * The results must be equal if no predicate of docs/fribidi-compat.md holds for a list. For each predicate, they must
  * differ on at least half of the lists for which only this predicate holds. */
@@ -79,8 +80,8 @@ static unsigned met(int call, const input *one) {
 /* ---- Random lists ---- */
 
 /* Returns the index of the first separator inside an open isolate, or -1. FriBidi writes to freed memory for lists with
- * such a separator, so these lists are not passed to FriBidi. Lists that nest too deeply are not passed either, because
- * FriBidi may end the program. */
+ * such a separator, so it does not get these lists. It does not get lists that nest too deeply either,
+ * because it may then end the program. */
 static int open_at_separator(const input *one) {
     for (int k = 0, open = 0; k < one->length; k++) {
         if (one->types[k] == FRIBIDI_TYPE_BS && open > 0) return k;

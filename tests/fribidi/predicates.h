@@ -26,8 +26,8 @@ static unsigned first_direction(const input *one, int outside) {
     return 0;
 }
 
-/* P2 skips isolates. FriBidi's fribidi_get_par_direction does not. This predicate holds if an isolate changes the
- * direction. */
+/* P2 skips isolates. FriBidi's fribidi_get_par_direction does not. This predicate holds if skipping them
+ * changes the direction. */
 static int first_strong_in_isolate(const input *one) { return first_direction(one, 0) != first_direction(one, 1); }
 
 /* By P3, even a paragraph without strong characters has a level. FriBidi returns the requested weak direction. */
@@ -43,7 +43,8 @@ static int separator_inside(const input *one) {
 
 #include "reference.h"
 
-/* Whether one of FriBidi's deviations in reference.h, alone or with all others, changes a level or, if `greatest`, the greatest level. */
+/* Whether the deviation `way` of reference.h, alone or with all others, changes a level or, if `greatest` is
+ * set, the greatest level. */
 static int changes(const input *one, int way, int greatest) {
     input plain = *one; /* for the function that takes no brackets */
     memset(plain.brackets, 0, sizeof plain.brackets);
@@ -57,8 +58,9 @@ static int changes(const input *one, int way, int greatest) {
 }
 
 /* Whether an opening bracket in one isolate may be paired with a closing bracket of the same number in a later isolate of the same depth.
- * The characters of this depth between them must not all have the level of the opening bracket, or the characters between the isolates
- * must not all be neutral. At least one of the two brackets must have level `least` or above. */
+ * Some character of this depth between them must have another level than the opening bracket, or some
+ * character between the isolates must not be neutral. At least one of the two brackets must have level
+ * `least` or above. */
 static int pair_over_isolates(const input *one, int least) {
     static plain p;
     int isolate[MOST];
@@ -98,7 +100,7 @@ static int too_deep(const input *one) {
 }
 
 /* N0: the strong type before a pair is looked up in the pair's sequence. If there is none, sos is used. FriBidi also
- * looks before the sequence. */
+ * searches the characters before the sequence. */
 static int context_before_run(const input *one) { return changes(one, CONTEXT, 0); }
 static int context_before_run_top(const input *one) { return changes(one, CONTEXT, 1); }
 
@@ -139,7 +141,7 @@ static int marks_without_base(const input *one) {
     return 0;
 }
 
-/* L3: a mark's base directly precedes it. FriBidi skips characters between them that X9 removes. */
+/* L3: a mark's base directly precedes it. To find it, FriBidi skips characters that X9 removes. */
 static int mark_after_removed(const input *one) {
     if (!(one->flags & FRIBIDI_FLAG_REORDER_NSM)) return 0;
     for (int k = one->off; k + 1 < one->off + one->part; k++)

@@ -1,5 +1,5 @@
-/* Prints the properties of each code point: its type, unless that is LTR, its bracket and its mirror. Fails if the
- * function for one character and the function for a string disagree. Usage: properties LIBRARY. */
+/* Prints the properties of each code point: its bracket, its mirror, and its type unless that is LTR. Fails
+ * if the function for one character and the function for a string disagree. Usage: properties LIBRARY. */
 #include "both.h"
 
 int main(int argc, char **argv) {

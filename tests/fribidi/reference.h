@@ -1,4 +1,5 @@
-/* Finds the levels of UAX #9, rule by rule, for the predicates. Each bit selects a way in which FriBidi deviates:
+/* Finds the levels of UAX #9, rule by rule, for the predicates. Each bit of `ways` selects a deviation of
+ * FriBidi:
  *
  * - AS_ONE: all isolates of a depth form one sequence, in logical order. Brackets are paired across its runs, except across adjacent runs.
  *   A pair takes the level of its opening bracket. A mark at the start of a later isolate becomes ON, so the characters after it do not
@@ -6,7 +7,7 @@
  *   stays NSM and counts as L.
  * - LATER: an FSI whose isolate has no strong type takes its direction from a later isolate of its depth.
  * - DEEP: an overflow isolate increases the isolate depth. An isolate whose level is at most 125 is valid even after an overflow.
- * - CONTEXT: the strong type before a pair of brackets is also looked for before the level run.
+ * - CONTEXT: the search for the strong type before a pair of brackets continues before the level run.
  * - MERGED: a neutral directly after a neutral's marks is merged with that neutral. The merged neutral does not count
  *   as a bracket, and gets the direction of a bracket before it.
  * - BARE: an unmatched PDI keeps its type under an override.
@@ -35,8 +36,8 @@ static void find_matches(const input *one, plain *p) {
     }
 }
 
-/* Returns the level for the first strong type from a position on, up to the isolate's end, or -1 if there is none. If `joined`, looks in
- * later isolates of its depth too. */
+/* Returns the level that P3 derives from the first strong type between a position and the isolate's end, or
+ * -1 if there is none. If `joined` is set, also searches later isolates of its depth. */
 static int first_level(const input *one, const plain *p, int from, int joined) {
     int depth = 0, end = from > 0 && p->match[from - 1] >= 0 ? p->match[from - 1] : one->length;
     for (int k = from; k < (joined ? one->length : end); k++) {
@@ -107,8 +108,8 @@ static int is_neutral(FriBidiCharType type) {
 static int is_any(FriBidiCharType type, FriBidiCharType a, FriBidiCharType b, FriBidiCharType c) { return type == a || type == b || type == c; }
 
 /* Applies W1 to a mark that begins an isolate, if this isolate is joined with the isolate before it. The marks after it
- * get the mark's new type. Unless this type is AN, the characters after these marks get it too, as long as they have
- * the type that ended the isolate before. */
+ * get the mark's new type. Unless this type is AN, the characters after these marks get it too, up to the
+ * first one whose type differs from the last type of the isolate before. */
 static void join_mark(sequence *s, int k, int after_arabic) {
     FriBidiCharType *t = s->type, before = t[k - 1];
     FriBidiCharType own = before == FRIBIDI_TYPE_EN && after_arabic ? FRIBIDI_TYPE_AN : s->opener[k] != FRIBIDI_TYPE_ON ? FRIBIDI_TYPE_NSM : FRIBIDI_TYPE_ON;
@@ -153,7 +154,7 @@ static void weak(sequence *s, int ways) {
     }
 }
 
-/* Returns L or R if the neutral rules treat the type as that direction, and 0 otherwise. */
+/* Returns the direction, L or R, as which N0 to N2 treat a type, or 0 for types without a direction. */
 static FriBidiCharType seen(FriBidiCharType type) {
     if (type == FRIBIDI_TYPE_LTR) return type;
     return is_any(type, FRIBIDI_TYPE_RTL, FRIBIDI_TYPE_EN, FRIBIDI_TYPE_AN) ? FRIBIDI_TYPE_RTL : 0;
@@ -166,7 +167,7 @@ static void set_bracket(const input *one, sequence *s, int k, FriBidiCharType ty
     for (int first = 1; ways & MERGED && marks && k < s->count && s->was[k] == FRIBIDI_TYPE_ON && (first || one->brackets[s->at[k]] == 0); k++) s->type[k] = type, first = 0;
 }
 
-/* Applies N0 across some runs. */
+/* Applies N0 to `many` runs, as if they were one sequence. */
 static void pair_brackets(const input *one, sequence *runs, int many, int ways) {
     int open[63], opened = 0, count = 0, closer[MOST], place[MOST];
     sequence *of[MOST];
@@ -205,8 +206,8 @@ static void pair_brackets(const input *one, sequence *runs, int many, int ways) 
     }
 }
 
-/* Returns the direction of a type that N1 compares on each side of neutral types. An NSM that remains after W1 has no
- * direction. */
+/* Returns the direction that N1 uses for a type next to neutral types. Returns NSM for an NSM that remains
+ * after W1, which has no direction. */
 static FriBidiCharType side_of(FriBidiCharType type) { return type == FRIBIDI_TYPE_NSM ? type : seen(type); }
 
 static void resolve(sequence *s, int *levels) {
@@ -226,7 +227,7 @@ static void resolve(sequence *s, int *levels) {
 
 static int higher(int a, int b) { return a > b ? a : b; }
 
-/* Returns the index of the nearest neighbour that X9 does not remove, or -1. */
+/* Returns the index of the next character, in the direction `step`, that X9 does not remove, or -1. */
 static int beside(const input *one, int k, int step) {
     for (k += step; k >= 0 && k < one->length; k += step)
         if (!is_removed(one->types[k])) return k;
@@ -254,7 +255,7 @@ static void find_isolates(const input *one, const plain *p, int ways, int *isola
     }
 }
 
-/* Applies the weak rules to a run. Returns the last strong type in it or in the runs before it. */
+/* Sets sos and eos of a run, and applies W1 to W7. Returns its last direction or, if it has none, `last`. */
 static FriBidiCharType end_run(sequence *s, FriBidiCharType last, int before, int after, int ways) {
     s->sos = direction(higher(s->level, before)), s->eos = direction(higher(s->level, after)), s->before = last;
     weak(s, ways);
@@ -263,7 +264,7 @@ static FriBidiCharType end_run(sequence *s, FriBidiCharType last, int before, in
     return last;
 }
 
-/* Whether a run directly follows another run. */
+/* Whether `next` directly follows `s`, or only characters that X9 removes are between them. */
 static int follows(const input *one, const sequence *s, const sequence *next) { return beside(one, s->at[s->count - 1], 1) == next->at[0]; }
 
 static void resolve_runs(const input *one, const plain *p, int base, int ways, int *levels) {

@@ -1,8 +1,8 @@
 /* Shows a chat: chat [--sessions] WIDTH... < MESSAGES. Each line of the input is a message. The chat is laid out at each WIDTH,
  * as if its window changed, and printed at the last one.
  *
- * By default, a message is laid out when it is shown, without a session. With --sessions, each message has a session, as if
- * it were being edited or selected. */
+ * By default, a message is laid out without a session, when it is shown. With --sessions, each message has a
+ * session, as a chat needs for messages that users edit or select. */
 #define _POSIX_C_SOURCE 200809L
 #include <hordguli.h>
 #include <stdio.h>
@@ -50,7 +50,7 @@ static void add(const char *text, size_t length) {
 static char *buffer;
 static size_t room, written;
 
-/* Grows the buffer if a call found it too small, and returns whether it did. */
+/* If a call returned NO_ROOM, grows the buffer and returns 1. Otherwise checks the status and returns 0. */
 static int grows(hordguli_status status) {
     if (status != HORDGULI_NO_ROOM) {
         check(status);

@@ -7,8 +7,8 @@
  *     text                                         prints the number of bytes, and the text
  *
  * The protocol's lines end only at LF, CR and CR LF. Paragraphs end at other separators too, so a line can have several
- * of them. A character past the end of its line stands for the end of the line, and a line past the end of the text for
- * the end of the text. */
+ * of them. A CHARACTER past the end of its line stands for the end of the line, and a LINE past the end of
+ * the text for the end of the text. */
 #include <hordguli.h>
 #include <stdio.h>
 #include <stdlib.h>
@@ -53,14 +53,14 @@ static uint32_t character(size_t pos) {
     return found;
 }
 
-/* Returns how many UTF-16 code units come before a text position. */
+/* Returns how many UTF-16 code units are before a position in the text. */
 static size_t unit_of(size_t pos) {
     size_t unit;
     check(hordguli_utf16_of(&session, pos, &unit));
     return unit;
 }
 
-/* Records which of the new paragraphs of an edit end a line. */
+/* Records, for each new paragraph of an edit, whether a line of the protocol ends with it. */
 static void note(const hordguli_damage *damage) {
     size_t first = damage->first_paragraph, after = first + damage->old_paragraphs;
     size_t now = paragraphs - damage->old_paragraphs + damage->new_paragraphs;
@@ -74,7 +74,7 @@ static void note(const hordguli_damage *damage) {
     }
 }
 
-/* Returns the text position of a line and a UTF-16 code unit in it. */
+/* Returns the position in the text for a line and a number of UTF-16 code units in it. */
 static size_t position(size_t line, size_t units) {
     size_t first = 0, last, start, end;
     hordguli_position found;

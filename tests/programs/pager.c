@@ -16,7 +16,7 @@ static hordguli_session session = HORDGULI_SESSION_INIT;
 static size_t height, width, top, looks_count;
 static struct termios before;
 
-/* The sequences in effect at each character, as an index of `looks`. Look 0 has none. */
+/* For each character, the sequences in effect, as an index in `looks`. Look 0 has no sequences. */
 static uint32_t *look_of;
 static char **looks;
 
@@ -39,7 +39,7 @@ static void *sure(void *block) {
     return block;
 }
 
-/* Adds a sequence to the sequences in effect. Returns the new look. */
+/* Adds a sequence to those of a look. Returns the index of the new look: 0 if the sequence resets all. */
 static uint32_t add_sequence(uint32_t look, const char *sequence, size_t length) {
     const char *old = looks[look];
     if (length <= 3 || memcmp(sequence, "\33[0m", 4) == 0) return 0;
@@ -49,7 +49,7 @@ static uint32_t add_sequence(uint32_t look, const char *sequence, size_t length)
     return (uint32_t)looks_count++;
 }
 
-/* Removes the sequences that end in `m` from a text. Returns its new length. */
+/* Removes the sequences that end in `m` from a text, and stores its looks. Returns its new length. */
 static size_t take_sequences(char *text, size_t length) {
     size_t kept = 0, characters = 0;
     uint32_t look = 0;
@@ -69,7 +69,7 @@ static size_t take_sequences(char *text, size_t length) {
     return kept;
 }
 
-/* Reads a file. A NUL follows its bytes. */
+/* Returns the bytes of a file, followed by a NUL. */
 static char *read_file(const char *path, size_t *length) {
     FILE *file = fopen(path, "rb");
     char *text;

@@ -9,7 +9,7 @@ from hypothesis import HealthCheck, settings
 
 DIRECTIONS = Options.WEAK_LTR, Options.WEAK_RTL, Options.LTR, Options.RTL
 
-# Each run uses the same examples, with no limit on their time: other tests may use the processors.
+# Each run uses the same examples. Their time is not limited, since other tests may run at the same time.
 settings.register_profile("fixed", derandomize=True, database=None, deadline=None, suppress_health_check=[HealthCheck.too_slow])
 settings.load_profile("fixed")
 

@@ -481,7 +481,7 @@ def break_reasons(tables, text, whole_numbers=False):
 
 # ---- Unicode's test files ----
 
-# A character of each bidi class. No character is a bracket.
+# A character of each bidi class, none of them a bracket.
 SAMPLES = {
     "L": "a", "R": "\u05d0", "AL": "\u0627", "EN": "1", "ES": "+", "ET": "$", "AN": "\u0661", "CS": ",", "NSM": "\u0300", "BN": "\u00ad", "B": "\u2029",
     "S": "\t", "WS": " ", "ON": "!", "LRE": "\u202a", "LRO": "\u202d", "RLE": "\u202b", "RLO": "\u202e", "PDF": "\u202c", "LRI": "\u2066", "RLI": "\u2067",

@@ -6,11 +6,11 @@
 
 static long left;
 
-/* Makes one of the next allocations fail, once: the one with this number, counted from 1. With 0, none fails. */
+/* Makes only allocation `number` fail, counted from the next one, which is 1. With 0, none fails. */
 void refuse(long number);
 void refuse(long number) { left = number; }
 
-/* Whether the allocation with this return address is the one that fails. */
+/* Counts an allocation if its return address `caller` is in libhordguli, and returns whether it must fail. */
 static int fails(const void *caller) {
     Dl_info info;
     if (left == 0 || dladdr(caller, &info) == 0 || info.dli_fname == NULL || strstr(info.dli_fname, "libhordguli.so") == NULL) return 0;

@@ -179,7 +179,7 @@ def test_a_failing_function_leaves_the_tables_usable(name):
     assert from_another_thread(lambda: hordguli.levels(HEBREW)) == [1, 1, 1]
 
 
-# What each call says about a text of 8 characters and 2 lines.
+# Calls on a text of 8 characters and 2 lines, by the message of the error that each raises.
 MESSAGES = {
     "position 9 is out of range": lambda text: text.insert(9, "x"),
     "9 characters from 1 on are out of range": lambda text: text.delete(1, 9),
@@ -424,13 +424,13 @@ def test_closed_default_tables_are_opened_again():
 
 # ---- What hordguli.harfbuzz needs ----
 
-# The ways in which a package of PyGObject can be missing, with what Python then raises.
+# For each Debian package that `hordguli.harfbuzz` needs, statements after which Python fails as without it.
 MISSING = {
     "python3-gi": "sys.modules['gi'] = None",
     "gir1.2-harfbuzz-0.0": "gi.require_version = lambda *_: int('none')",
     "libharfbuzz-gobject0": "gi.require_version, harfbuzz.buffer_create = print, fail",
 }
-# The ways in which the library can be missing: there is no file, or it is not a HarfBuzz library.
+# Two ways in which HarfBuzz's library can be missing: there is no such file, or it is another library.
 LIBRARIES = "libnone.so.0", "libc.so.6"
 
 

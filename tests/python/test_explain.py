@@ -78,7 +78,7 @@ def test_positions_of_reasons_count_in_the_text():
     assert [one.break_reason.behind_spaces for one in explained.characters] == [0, 1, 2, 2, 4, 4, 6, 7, 7]
 
 
-# ---- Sentences. Each row has a text, a position, and what is said there. ----
+# ---- Sentences: each row has a text, a position, and the explanations for it ----
 
 OVERRIDE, ISOLATE = "\u202eab\u202c", "\u2067a\u2069"
 SENTENCES = {
@@ -355,7 +355,7 @@ def test_the_table_has_a_row_for_each_character():
     assert re.split("  +", lines[3])[-2:] == ["LB13: no break before a closing parenthesis", "I1: right-to-left, so level 1"]
     assert lines[2].split()[:5] == ["1", "(", "U+0028", "ON", "open"] and lines[5].split()[:2] == ["4", "\u25cc\u05b0"]
     assert {line[5:11] for line in (lines[6], lines[7], lines[9])} == {" " * 6}  # (not printable)
-    # (a mark needs one column and two characters, and a wide character two columns)
+    # (a mark is shown as two characters in one column, and a wide character as one in two columns)
     assert [line.index("U+") for line in lines[1:10]] == [11, 11, 11, 11, 12, 11, 11, 10, 11]
     assert lines[10] == "line 0: 9 from 0, 7 columns; runs: 2 from 0 at level 0; 1 from 2 at level 1; 5 from 3 at level 0"
     assert lines[11] == "paragraph 0: 9 from 0, base level 0, decided by the character at 0"

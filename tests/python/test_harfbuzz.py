@@ -57,7 +57,7 @@ def test_letters_join_within_a_paragraph():
     measure = Measure(NOTO, 26)
     joined, alone = measure(run_of(BEH * 3, 1)), measure(run_of(BEH, 1))[0]
     assert len({*joined, alone}) > 2
-    # letters join across the runs of a paragraph too
+    # letters also join across the runs of a paragraph
     apart = measure(ParagraphText(BEH * 3, 1, (Run(0, 1, 1), Run(1, 1, 3), Run(2, 1, 1))))
     assert apart == joined
 
@@ -65,7 +65,7 @@ def test_letters_join_within_a_paragraph():
 def test_a_ligature_has_its_advance_at_its_first_character():
     lam_alef = Measure(NOTO, 26)(run_of(f"{LAM}{ALEF}", 1))
     assert lam_alef[0] > 0 and lam_alef[1] == 0
-    # a letter and a mark that are two glyphs
+    # a letter and a mark with a glyph each
     assert Measure(NOTO, 26)(run_of("x\u0302", 0)) == [*Measure(NOTO, 26)(run_of("x", 0)), 0]
 
 
@@ -91,7 +91,7 @@ def test_a_character_is_in_the_first_font_that_has_it():
     measure, single = Measure(NOTO, 26), [Measure(file, 26) for file in NOTO]
     assert measure(run_of(f"{HEBREW} ", 1)) == [*single[1](run_of(HEBREW, 1)), *single[0](run_of(" ", 1))]
     assert measure(run_of("a\u6f22", 0))[1] == single[0](run_of("\u6f22", 0))[0] > 0
-    # a mark is in the font of its base
+    # a mark gets the font of its base
     assert [part.font for part in measure.parts(Piece(0, "שָׁלוֹם", 1, 0, 0))] == [1]
     assert [part.font for part in Measure([NOTO[0], DEJAVU], 26).parts(Piece(0, "\u05d0\u0301", 1, 0, 0))] == [1]
     assert Measure(NOTO[::-1], 26)(run_of(" ", 0)) == single[2](run_of(" ", 0))
@@ -168,7 +168,7 @@ def test_tab_stops_are_where_8_spaces_are():
 # ---- examples/caption.py ----
 
 SIZE, HEIGHT, MARGIN = 26, 44, 16
-# The text to replace in caption.py, and its replacement.
+# For each mutant: the text to replace in caption.py, and the replacement.
 CAPTION_MUTANTS = [
     ("line.padding + part.left", "part.left"),
     ("line.padding + part.left", "line.padding"),

@@ -249,7 +249,7 @@ FUNCTIONS = {
     "Tables": lambda: hordguli.Tables().closed,
     "Tables of Unicode 17.0": lambda: hordguli.Tables(unicode="17.0").closed,
     "display": lambda: hordguli.display(f"ab {HEBREW} (1)"),
-    # (after a long text, the tables keep no memory, so the second call allocates)
+    # (the tables keep no memory after a long text, so the second call allocates)
     "wrap": lambda: [hordguli.wrap(text, 5) for text in ("ab " * 30_000, f"ab {HEBREW} (1)")][1],
     "breaks": lambda: hordguli.breaks("a b"),
     "reasons": lambda: hordguli.reasons(f"ab {HEBREW} (1)"),

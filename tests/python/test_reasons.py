@@ -170,7 +170,7 @@ def test_a_break_reason_has_its_values():
     assert hordguli.break_reasons("") == []
 
 
-# For each rule and version, a text whose first mark it decides.
+# For each rule and version, a text whose first break mark the rule decides.
 RULES = {
     "LB3": "a", "LB4": "\x0ba", "LB5": "\ra", "LB6": "a\n", "LB7": "a ", "LB8": "\u200ba", "LB8a": "\u200da", "LB9": "a\u0301", "LB11": "a\u2060",
     "LB12": "\u00a0a", "LB12a": "a\u00a0", "LB13": "a!", "LB14": "(a", "LB16": ")\u3005", "LB17": "\u2014\u2014", "LB18": " a", "LB19": "a'", "LB20": "a\ufffc",

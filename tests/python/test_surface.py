@@ -23,7 +23,7 @@ sys.path.insert(0, f"{TOP}/tools")
 from c_header import Header
 
 HEADER = Header("include/hordguli.h")
-# functions of the C library that the package deliberately leaves out: it passes a version, and `bytes.decode` decodes
+# C functions that the package leaves out: it calls those that take a version, and `bytes.decode` decodes
 NOT_OFFERED = {"hordguli_decode", *(f"hordguli_tables_{name}" for name in ("open_builtin", "open_folder", "read"))}
 RENAMED = {"changed_lines": "changed"}  # in C, the function has this name
 NAMES = {*hordguli.__all__} | {name for name, one in vars(hordguli).items() if name[0] != "_" and not inspect.ismodule(one)}
@@ -68,7 +68,7 @@ def test_records_are_those_of_the_header():
         assert list(kind._fields) == [name for _, name in fields if name != "zero"], kind
         unrolled = re.sub(r"(\d+)([A-Z])", lambda m: int(m[1]) * m[2], layout.format)
         assert unrolled == wanted and layout.size == struct.calcsize(wanted), kind
-    # handles and the contents of a file have pointers
+    # the other structs, handles and `hordguli_bytes`, have pointers
     assert {*structs} == {"hordguli_tables", "hordguli_session", "hordguli_bytes"}
 
 

@@ -96,7 +96,7 @@ def test_line_separators_alone_end_paragraphs():
         with hordguli.Session(text, 80, options) as session:
             assert (session.counts.paragraphs, session.counts.lines) == (paragraphs, lines)
     embedded = "\u202ba\u2029b"
-    # (a paragraph separator is a level run of its own, a line separator is inside a run of the embedding)
+    # (a paragraph separator is a level run of its own, and a line separator is in a run of the embedding)
     assert [hordguli.levels(embedded, options)[2] for options in (Options.LTR, Options.LTR | Options.LINE_SEPARATORS)] == [1, 2]
     assert hordguli.base_level(embedded, Options.LINE_SEPARATORS) == hordguli.base_level(embedded)
 

@@ -37,7 +37,7 @@ static void tell(const char *name, uint64_t value) {
     if (prints) printf("%s %llu\n", name, (unsigned long long)value);
 }
 
-/* Returns whether a call has succeeded. */
+/* Adds the status of a call to the checksum, and returns whether the call has succeeded. */
 static int succeeds(const char *name, hordguli_status status) {
     tell(name, (uint64_t)status);
     return status == HORDGULI_OK;
@@ -54,7 +54,7 @@ static void tell_bytes(const char *name, const char *bytes, size_t length) {
         for (size_t k_ = 0; k_ < (count); k_++) tell(name, (array)[k_]); \
     } while (0)
 
-/* Makes a random text of `count` characters in UTF-8, and returns its length in bytes. */
+/* Stores a random text of `count` characters as UTF-8, and returns its length in bytes. */
 static size_t random_text(size_t count, char *into) {
     size_t at = 0;
     while (count-- > 0) {
@@ -204,7 +204,7 @@ static void offset_answers(size_t offset) {
     }
 }
 
-/* Adds to the checksum a part of the text, and the bytes that some lines print. */
+/* Adds a part of the text, and the printed bytes of some lines, to the checksum. */
 static void text_answers(void) {
     static char bytes[BYTES];
     static uint32_t characters[MOST];
@@ -252,7 +252,7 @@ static void reason_answers(hordguli_tables *chosen, uint32_t options, uint32_t d
         }
 }
 
-/* Adds to the checksum what the calls without a session return for a text. */
+/* Adds the results of the calls without a session for a text to the checksum. */
 static void row_answers(hordguli_tables *chosen, uint32_t options, uint32_t direction, const uint32_t *characters, size_t count) {
     static uint32_t visual[MOST], ltov[MOST], vtol[MOST];
     static uint8_t levels[MOST], row_levels[MOST], marks[MOST];
@@ -299,7 +299,7 @@ static void tell_damage(hordguli_status status, const hordguli_damage *damage) {
     tell("new_paragraphs", damage->new_paragraphs);
 }
 
-/* Makes advances, and returns their number. */
+/* Stores `count` random advances, and returns `count`. */
 static size_t random_advances(size_t count, uint32_t *into) {
     for (size_t k = 0; k < count; k++) into[k] = (uint32_t)below(5);
     return count;

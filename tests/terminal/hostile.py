@@ -23,7 +23,7 @@ def in_parts(text):
     return "".join(lines(text[start : start + LIMIT]) for start in range(0, len(text), LIMIT))
 
 
-# Each case has a name, its input, the output, and whether the status is 1 because a paragraph is over the limit.
+# Each case has a name, input, output, and whether the status is 1 because a paragraph exceeds the limit.
 CASES = [
     ("an unfinished string of 10 MB", lambda: f"{E}]0;" + "u" * 10 * MILLION, lambda: "", False),
     ("a string of 10 MB", lambda: f"a{E}P" + "u" * 10 * MILLION + f"{E}\\b\n", lambda: "ab\n", False),

@@ -16,7 +16,7 @@ from typing import NamedTuple, Optional
 
 TOP = os.path.dirname(os.path.dirname(os.path.dirname(os.path.abspath(__file__))))
 LIBRARY = f"{TOP}/bin/libhordguli.so.1"
-# The package then finds this library, because it is loaded under the same name.
+# Loads this library first, so that the package finds it under the same name.
 ctypes.CDLL(LIBRARY)
 sys.path.insert(0, f"{TOP}/python")
 import hordguli
@@ -26,7 +26,8 @@ MOST_IN_STRING = 4096
 MOST_OF_LINKS = 1_048_576
 WIDEST = 65_535
 LOOKED_AT_FOR_DIRECTION = 65_536
-# The mandatory breaks that end no paragraph, and what ends a line at the end of a paragraph, without and with --line-separators.
+# The separators that end a line but no paragraph, and those that end the last line of a paragraph: each
+# without and with --line-separators.
 LINE_BREAKS = re.compile("[\v\f\u2028]"), re.compile("[\v\f\x85\u2028\u2029]")
 LINE_END = re.compile("(\r\n|[\n\v\f\r\x1c-\x1e\x85\u2028\u2029])\\Z"), re.compile("(\r\n|[\n\v\f\r\x85\u2028\u2029])\\Z")
 

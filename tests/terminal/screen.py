@@ -130,6 +130,6 @@ def checks(told, random, count):
     for at in range(count):
         words = random.choice([[], [], ["--nopad"], ["--direction=rtl"], ["--marks=after"], ["--show-spaces"], ["--tabs=4"]])
         width = random.choice([5, 10, 20, 40])
-        # (a tab that is wider than the screen would be on two rows of it)
+        # (a tab that is wider than the screen would cover parts of two rows)
         narrow_tabs = ["--tabs=4"] if width == 5 else []
         compares(told, f"random text {at}", simple_text(random), width, words + narrow_tabs)

@@ -1,5 +1,5 @@
-//! Times calls to a session on the text of a file, for comparison with the same calls through C
-//! (`tests/c/speed.c`).
+//! Measures how long calls to a session on the text of a file take, for comparison with the same calls
+//! through C (`tests/c/speed.c`).
 use crate::edits::{close, open};
 use crate::numbers::Numbers;
 use crate::paragraphs::{engine, let_go};
@@ -11,8 +11,8 @@ use std::fs;
 use std::time::Instant;
 use store::TreeStore;
 
-/// Prints times in nanoseconds: opening a session on the text, inserting a letter `inserts` times at
-/// pseudorandom positions, and reading the starts, characters and levels of all lines. Then prints the sum of
+/// Prints three times in nanoseconds: to open a session on the text, to insert a letter `inserts` times at
+/// pseudorandom positions, and to read the starts, characters and levels of all lines. Also prints the sum of
 /// these starts, characters and levels.
 pub fn run(rt: &HostRuntime, folder: &str, file: &str, inserts: usize) -> Result<()> {
     let text = fs::read_to_string(rt, file)?;

@@ -29,7 +29,7 @@ pub enum StoreKind {
     Tree,
 }
 
-/// Makes edits in a session whose paragraphs are kept in a list or a tree, and prints the session's counts.
+/// Makes edits in a session that keeps its paragraphs in a list or a tree, and prints the session's counts.
 pub fn run(rt: &HostRuntime, kind: StoreKind, paragraphs: usize, edits: usize) -> Result<()> {
     match kind {
         StoreKind::List => show::<VecStore<Kept>>(rt, paragraphs, edits),
@@ -70,7 +70,7 @@ fn show_counts<S: ParagraphStore<Kept>>(rt: &HostRuntime, session: &Session<S>) 
     Ok(())
 }
 
-/// Returns a text of paragraphs of 80 characters.
+/// Returns a text of `paragraphs` paragraphs, each of 80 characters.
 pub fn text_of(alloc: Global, paragraphs: usize) -> Result<String, AllocError> {
     let mut text = String::new(alloc);
     for _ in 0..paragraphs {
@@ -94,7 +94,7 @@ pub fn open<S: ParagraphStore<Kept> + Drop>(
     }
 }
 
-/// Drops a session. No other function drops a session, just as only `let_go` drops an engine.
+/// Drops a session. No other function drops a session, to keep proofs fast (see `let_go`).
 pub fn close<S: ParagraphStore<Kept> + Drop>(_session: Session<S>) {}
 
 /// Inserts and deletes two characters at a time. Paragraphs are split about as often as joined, so the

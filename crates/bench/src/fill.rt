@@ -1,4 +1,5 @@
-//! Times laying out one paragraph and filling it again, for several kinds of text and several widths.
+//! Measures the times to lay out one paragraph and to fill it again, for several kinds of text and several
+//! widths.
 ghost use Rattle.std.specs.Prelude.{◌<◌, IfOk};
 ghost use Rattle.lines.specs.Engine.{rules_of, SameRules};
 ghost use Rattle.lines.specs.Layouts.{IsLaidOut};
@@ -9,7 +10,7 @@ use anyhow::{Result, bail};
 use lines::{Engine, Laid, PARAGRAPH_LIMIT};
 use std::time::Instant;
 
-// The words of a paragraph, in pseudorandom order, and a width in columns.
+// A case: a name, a width in columns, and the words of which its paragraph consists, in pseudorandom order.
 struct Case {
     name: &'static str,
     words: &'static [&'static str],
@@ -85,8 +86,8 @@ const CASES: [Case; 12] = [
     },
 ];
 
-/// Prints a line for each case, for a paragraph of `characters` characters: the minimum times for laying out
-/// the paragraph and for filling it again, in nanoseconds, the number of lines, the width and the name.
+/// Prints a line for each case, with a paragraph of `characters` characters. The line has the minimum times
+/// in nanoseconds to lay out the paragraph and to fill it again, the number of lines, the width and the name.
 pub fn run(rt: &HostRuntime, folder: &str, characters: usize) -> Result<()> {
     let mut engine = engine(rt, folder)?;
     let answer = show_cases(rt, &mut engine, &CASES, characters);

@@ -1,4 +1,4 @@
-//! Times finding the levels of one paragraph and laying it out, for several kinds of text.
+//! Measures the times to find the levels of one paragraph and to lay it out, for several kinds of text.
 use crate::fill::lay_out;
 use crate::paragraphs::{Kind, Subject, engine, let_go, measure_all};
 use crate::rows::show;
@@ -110,14 +110,14 @@ const KINDS: [Kind; 18] = [
     },
 ];
 
-/// Prints a line for each kind of paragraph of this length: its minimum time in nanoseconds, its highest
-/// level and its name.
+/// Prints a line for each kind, with a paragraph of `characters` characters: the minimum time in nanoseconds,
+/// the highest level and the name of the kind.
 pub fn run(rt: &HostRuntime, folder: &str, characters: usize) -> Result<()> {
     measure_all(rt, Subject::Levels, &KINDS, folder, characters)
 }
 
-/// Prints a line for each kind of paragraph of this length, laid out at 80 columns: its minimum time in
-/// nanoseconds, the number of lines and its name.
+/// Prints a line for each kind, with a paragraph of `characters` characters laid out at 80 columns: the
+/// minimum time in nanoseconds, the number of lines and the name of the kind.
 pub fn lay_out_each(rt: &HostRuntime, folder: &str, characters: usize) -> Result<()> {
     let mut engine = engine(rt, folder)?;
     let answer = show_layouts(rt, &mut engine, &KINDS, characters);

@@ -1,17 +1,22 @@
-//! Measures what the command alone cannot measure, for the scripts in `bench/`. Times are in nanoseconds. UCD
-//! is the folder of the table files. KIND is `list` or `tree`, which says how the paragraphs are stored.
+//! Measures parts of the library on their own, for the scripts in `bench/`. Times are in nanoseconds. UCD is
+//! the folder that has the table files. KIND says how paragraphs are stored: `list` or `tree`.
 //!
-//! - `bench edits KIND PARAGRAPHS EDITS` makes edits in a session, and prints the session's counts.
-//! - `bench session UCD KIND PARAGRAPHS EDITS` times opening a session and making an edit.
-//! - `bench calls UCD FILE INSERTS` times opening a session on a text, making inserts, and reading it line by
-//!   line.
-//! - `bench width UCD KIND FILE` times changing the width of a text, and laying out and filling its
-//!   paragraphs.
-//! - `bench levels UCD CHARACTERS` times finding the levels of a paragraph, for many kinds of text.
-//! - `bench layouts UCD CHARACTERS` times laying out the same paragraphs.
-//! - `bench marks UCD CHARACTERS` times finding the break marks of a paragraph, for several kinds of text.
-//! - `bench fill UCD CHARACTERS` times laying out a paragraph and filling it again.
-//! - `bench store KIND PARAGRAPHS TIMES` times making a store of paragraphs, a replacement and a search.
+//! - `bench edits KIND PARAGRAPHS EDITS` makes EDITS edits in a session on PARAGRAPHS paragraphs, and prints
+//!   the session's counts.
+//! - `bench session UCD KIND PARAGRAPHS EDITS` measures the time to open a session on PARAGRAPHS paragraphs,
+//!   and the average time of EDITS edits.
+//! - `bench calls UCD FILE INSERTS` measures the times to open a session on the text of FILE, to make INSERTS
+//!   inserts, and to read the text line by line.
+//! - `bench width UCD KIND FILE` measures the times to lay out and to fill the paragraphs of FILE, and to
+//!   change the width of a session on FILE.
+//! - `bench levels UCD CHARACTERS` measures the time to find the levels of a paragraph of CHARACTERS
+//!   characters, for many kinds of text.
+//! - `bench layouts UCD CHARACTERS` measures the time to lay out each of these paragraphs.
+//! - `bench marks UCD CHARACTERS` measures the time to find the break marks of such a paragraph, for several
+//!   kinds of text.
+//! - `bench fill UCD CHARACTERS` measures the times to lay out such a paragraph and to fill it again.
+//! - `bench store KIND PARAGRAPHS TIMES` measures the time to make a store of PARAGRAPHS paragraphs, and the
+//!   average times of TIMES replacements and TIMES searches.
 #![tactic(auto)]
 
 mod calls;
@@ -59,9 +64,9 @@ const SUBJECTS: [(&str, Subject); 9] = [
     ("store", Subject::Store),
 ];
 
-// Runs the named measurement. A function with many calls that may fail owns few values, since each value that
-// is dropped after a failure makes the proof longer. Names are looked up in a table, since a `match` on a
-// name has a path for each byte of the name.
+// Runs the named measurement. Functions with many calls that may fail own few values here, since each value
+// that is dropped after a failure makes the proof longer. Names are looked up in a table, since a `match` on
+// a name would have a path for each byte of the name.
 fn run(rt: &HostRuntime, words: &[String]) -> Result<()> {
     let name = word(words, 1);
     for (known, subject) in &SUBJECTS {

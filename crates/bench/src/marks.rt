@@ -1,4 +1,4 @@
-//! Times finding the break marks of one paragraph, for several kinds of text.
+//! Measures the time to find the break marks of one paragraph, for several kinds of text.
 use crate::paragraphs::{Kind, Subject, measure_all};
 use anyhow::Result;
 
@@ -51,8 +51,8 @@ const KINDS: [Kind; 8] = [
     },
 ];
 
-/// Prints a line for each kind of paragraph of this length: its minimum time in nanoseconds, the number of
-/// break opportunities and its name.
+/// Prints a line for each kind, with a paragraph of `characters` characters: the minimum time in nanoseconds,
+/// the number of break opportunities and the name of the kind.
 pub fn run(rt: &HostRuntime, folder: &str, characters: usize) -> Result<()> {
     measure_all(rt, Subject::Marks, &KINDS, folder, characters)
 }

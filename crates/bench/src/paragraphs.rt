@@ -1,4 +1,4 @@
-//! Times the analysis of one paragraph, for several kinds of text.
+//! Measures the time to analyse one paragraph, for several kinds of text.
 ghost use Rattle.std.specs.Prelude.{◌<◌, IfOk};
 ghost use Rattle.lines.specs.Engine.{rules_of, SameRules};
 ghost use Rattle.lines.specs.Layouts.{IsLaidOut};
@@ -14,7 +14,7 @@ use std::time::Instant;
 use tables::in_folder;
 use ucd::Tables;
 
-/// A kind of paragraph, which consists of these words in pseudorandom order.
+/// A kind of paragraph: its name, and the words of which it consists, in pseudorandom order.
 pub struct Kind {
     pub name: &'static str,
     pub words: &'static [&'static str],
@@ -30,8 +30,8 @@ pub enum Subject {
 /// How many times a paragraph is analysed. The minimum time is used.
 pub const RUNS: usize = 5;
 
-/// Prints a line for each kind of paragraph of this length: its minimum time in nanoseconds, the highest
-/// level or the number of break opportunities, and its name.
+/// Prints a line for each kind, with a paragraph of `characters` characters: the minimum time in nanoseconds,
+/// the highest level or the number of break opportunities, and the name of the kind.
 pub fn measure_all(
     rt: &HostRuntime,
     subject: Subject,
@@ -126,7 +126,7 @@ fn measure(
     show(rt, &[least, found as u64], name)
 }
 
-// Returns the highest level, or the number of break opportunities.
+// Returns the highest level or the number of break opportunities, depending on the subject.
 fn analyse(
     alloc: Global,
     subject: Subject,

@@ -1,4 +1,4 @@
-//! Times calls to a session on long texts.
+//! Measures how long calls to a session on a long text take.
 ghost use Rattle.std.specs.Prelude.{◌<◌, IfOk};
 ghost use Rattle.std.specs.List.{All};
 ghost use Rattle.lines.specs.Engine.{rules_of, SameRules};
@@ -14,9 +14,9 @@ use std::fs;
 use std::time::Instant;
 use store::{ParagraphStore, TreeStore, VecStore};
 
-/// Opens a session on a text of `paragraphs` paragraphs of 80 characters, kept in a list or a tree, and makes
-/// edits at pseudorandom positions. Prints the time to open the session and the average time of an edit, in
-/// nanoseconds.
+/// Opens a session on a text of `paragraphs` paragraphs, each of 80 characters, and makes edits at
+/// pseudorandom positions. The session keeps its paragraphs in a list or a tree. Prints the time to open the
+/// session and the average time of an edit, in nanoseconds.
 pub fn run(
     rt: &HostRuntime,
     folder: &str,
@@ -75,15 +75,15 @@ fn measure_edits<S: ParagraphStore<Kept>>(
     show_numbers(rt, &[opening, editing])
 }
 
-// The two widths, which alternate. All paragraphs are first laid out at `WIDE`.
+// The two widths that are set in turn. All paragraphs are first laid out at `WIDE`.
 const NARROW: u16 = 60;
 
 const WIDE: u16 = 80;
 
-/// Prints times in nanoseconds for the text of a file. The first three times are for laying out each
-/// paragraph, and for filling it again at the narrow width and at the wide width. The other times are for
-/// setting a session's width to the narrow width and back to the wide width. All times except the first are
-/// the minimum of several runs.
+/// Prints times in nanoseconds for the text of a file. The first three are the times to lay out all
+/// paragraphs, to fill them again at the narrow width, and to fill them again at the wide width. The other
+/// two are the times to set a session's width to the narrow width and back to the wide width. All times
+/// except the first are the minimum of several runs.
 pub fn set_width(rt: &HostRuntime, folder: &str, kind: StoreKind, file: &str) -> Result<()> {
     let text = fs::read_to_string(rt, file)?;
     set_width_of(rt, folder, kind, text.as_str())
@@ -166,7 +166,7 @@ fn time_of_width<S: ParagraphStore<Kept>>(
     since(rt, start)
 }
 
-// Times laying out each paragraph, and filling each again.
+// Returns the time to lay out all paragraphs, and the minimum times to fill them again at both widths.
 fn lay_out_and_fill(rt: &HostRuntime, folder: &str, text: &str) -> Result<(u64, Times)> {
     let mut engine = engine(rt, folder)?;
     let answer = lay_out_and_fill_text(rt, &mut engine, text);
@@ -193,7 +193,7 @@ fn lay_out_and_fill_by(
     Ok((since(rt, start)?, fill(rt, engine, &all)?))
 }
 
-// Times filling each paragraph again at both widths.
+// Returns the minimum times to fill all paragraphs again at both widths.
 fn fill(rt: &HostRuntime, engine: &mut Engine, all: &[Laid]) -> Result<Times>
     requires { All (IsLaidOut (rules_of engine.old)) all.now }
 {

@@ -1,5 +1,5 @@
-//! Times making a store of paragraphs, replacing a paragraph at a pseudorandom index, and searching for a
-//! character.
+//! Measures the times to make a store of paragraphs, to replace a paragraph at a pseudorandom index, and to
+//! search for a character.
 ghost use Rattle.std.specs.Prelude.{◌^◌, ◌<◌, if◌then◌else◌};
 
 use crate::edits::StoreKind;
@@ -11,7 +11,7 @@ use std::ops::Range;
 use std::time::Instant;
 use store::{Measured, ParagraphStore, TreeStore, VecStore};
 
-// A paragraph of at most one ASCII character and one line, with some more bytes.
+// A padded item of a store: a paragraph of one ASCII character and one line, or an empty one without lines.
 #[derive(Clone, Copy)]
 struct Small {
     has_text: bool,
@@ -133,7 +133,7 @@ fn search_some<S: ParagraphStore<Small>>(store: &S, numbers: &mut Numbers, times
     visits
 }
 
-// Returns a pseudorandom index.
+// Returns a pseudorandom index below `count`, or 0 if `count` is 0.
 fn place(numbers: &mut Numbers, count: usize) -> usize
     ensures { result < 2 ^ 63 }
 {

@@ -13,16 +13,18 @@ abbrev pub is_balanced : List BidiClass → ℕ → ℕ → Bool
 is_balanced classes i j =
     let part = slice_range classes i (j + 1) in count_by is_initiator part == count_by is_pdi part
 
--- the match of the initiator at i: the least index j after i for which the range from i to j is balanced
+-- the match of the initiator at i: the least index j after i for which the range from i to j is balanced, if
+-- there is one
 abbrev pub match_of : List BidiClass → ℕ → Option ℕ
 match_of classes i = least (is_balanced classes i) (i + 1) (length classes - (i + 1))
 
--- whether k is before an initiator's match, if the initiator has one
+-- whether k is before an initiator's match, or the initiator has no match
 abbrev pub is_before : ℕ → Option ℕ → Bool
 is_before k (Some j) = nat_lt k j
 is_before k None = true
 
--- whether k is inside the isolate of an initiator at i: after the initiator and before its match, if any
+-- whether there is an initiator at i and k is inside its isolate: after the initiator and before its match,
+-- if any
 abbrev pub is_in_span : List BidiClass → ℕ → ℕ → Bool
 is_in_span classes k i = is_initiator (class_at classes i) && (nat_lt i k && is_before k (match_of classes i))
 
@@ -30,7 +32,7 @@ is_in_span classes k i = is_initiator (class_at classes i) && (nat_lt i k && is_
 abbrev pub is_outside : List BidiClass → ℕ → Bool
 is_outside classes k = list_all (λ i. not (is_in_span classes k i)) (range_with_len 0 k)
 
--- P2: the index of the first strong character outside all isolates
+-- P2: the index of the first strong character outside all isolates, if there is one
 abbrev pub first_strong : List BidiClass → Option ℕ
 first_strong classes = least (λ k. is_strong (class_at classes k) && is_outside classes k) 0 (length classes)
 

@@ -16,11 +16,13 @@ use Rattle.bidi.specs.declared.bracket_steps.Decision.{Decision}
 use Rattle.bidi.specs.declared.bracket_type.BracketType.{BracketType}
 use Rattle.bidi.specs.declared.brackets.Opener.{Opener}
 
--- the index of each character's partner, or the length of the list if the character has no partner
+-- for each of `len` characters, the index of its partner (the other bracket of its pair), or `len` if it has
+-- none
 abbrev pub partners_of : List Pair → ℕ → List ℕ
 partners_of pairs len = map (λ k. unwrap_or (partner_in pairs k) len) (range_with_len 0 len)
 
--- the list of partners, updated for the closing bracket at `place` if it matches an opening bracket on the stack
+-- the list of partners once the closing bracket at `place` has been handled, given the position on the stack
+-- of the opening bracket that it matches, if any
 abbrev pub paired_by : Option ℕ → List Opener → List ℕ → ℕ → List ℕ
 paired_by (Some m) openers partners place =
     let opener = slice_index (map (λ (o : Opener). o.index) openers) m in
@@ -38,17 +40,18 @@ pub record ArePartners (look : ℕ → Option Bracket) (text : List ℕ) (types 
   pub full_is : full ≡ least (is_full look text types) 0 (length types)
   pub openers_are : (f k : ℕ) → full ≡ Some f → k < f → is_open openers k ≡ is_live look text types (pairs_before look text types f) k
 
--- the closing bracket of the pair that opens at k, given the list of partners
+-- the index of the closing bracket of the pair that opens at k, if there is one, given the list of partners
 abbrev pub closer_by : List ℕ → ℕ → Option ℕ
 closer_by partners k =
     if nat_lt k (slice_index partners k) && nat_lt (slice_index partners k) (length partners) then Some (slice_index partners k) else None
 
--- what N0 decides for the pair that opens at a, given its closing bracket, if such a pair exists
+-- what N0 decides for the pair that opens at a, given the index of its closing bracket, or `None` if no pair
+-- opens there
 abbrev pub decision_by : Bool → BidiClass → List BidiClass → ℕ → Option ℕ → Decision
 decision_by left sos types a (Some b) = record { case = Some (pair_case left sos types a b); inside = deciding left types a b }
 decision_by left sos types a None = record { case = None; inside = None }
 
--- the direction that a pair gets in each case
+-- the direction that a pair gets in a case of N0, or `None` if it gets none
 abbrev pub direction_in : Bool → BracketCase → Option BidiClass
 direction_in left B = Some (side left)
 direction_in left C1 = Some (side (not left))
@@ -61,7 +64,8 @@ abbrev pub is_past_by : List Opener → Option ℕ → ℕ → Bool
 is_past_by openers (Some full) k = nat_le full k || is_open openers k
 is_past_by openers None k = false
 
--- why the bracket at k has no pair, given its bracket type and its type
+-- why a bracket at k has no pair, given its bracket type and its type before N0, or `None` if the character
+-- is not a bracket
 abbrev pub unpaired_by : List Opener → Option ℕ → BracketType → BidiClass → ℕ → Option BracketCase
 unpaired_by openers full kind type k =
     if is_bracket kind then Some (if is_other type then (if is_past_by openers full k then PastLimit else NoMatch) else NotOther) else None
@@ -71,8 +75,8 @@ abbrev pub is_paired : List ℕ → ℕ → Bool
 is_paired partners k = nat_lt (slice_index partners k) (length partners)
 
 -- The step of the character at k, given the partners and the decision for each opening bracket. `unpaired` is
--- the reason why a bracket at k has no pair. `held` is the bracket with which N0 sets the type of a mark
--- there.
+-- the case if the character is in no pair. `held` is the bracket whose direction N0 also gives to a mark at
+-- k, if any.
 abbrev pub step_given : List ℕ → (ℕ → Decision) → Option BracketCase → Bool → Option ℕ → ℕ → BracketStep
 step_given partners decision unpaired mark held k =
     if is_paired partners k
@@ -83,7 +87,8 @@ step_given partners decision unpaired mark held k =
     }
     else record { case = unpaired; partner = if mark then held else None; inside = None }
 
--- The bracket with which N0 sets the type of a mark at k. `sets` says which brackets get a direction.
+-- The bracket whose direction N0 also gives to a mark at k, if any. `sets` says which brackets get a
+-- direction.
 abbrev pub holder : (ℕ → Bool) → List Bool → ℕ → Option ℕ
 holder sets marks zero = None
 holder sets marks (suc k) = if sets k then Some k else (if slice_index_or marks k false then holder sets marks k else None)

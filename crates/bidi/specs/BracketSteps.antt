@@ -1,5 +1,5 @@
--- What N0 does with each character of one isolating run sequence: the case that applies to a bracket, the other
--- bracket of its pair, and the strong type inside the pair that decides (UAX #9, BD14 to BD16 and N0).
+-- What N0 does with each character of one isolating run sequence: the case that applies to a bracket, the
+-- other bracket of its pair, and the strong type that decides the case (UAX #9, BD14 to BD16 and N0).
 use Rattle.std.specs.Prelude.{ℕ, ◌+◌, ◌-◌, ◌==◌, nat_le, min, max, Bool, true, false, ◌&&◌, ◌||◌, not, List, [], ◌∷◌, length, map, fold, slice_index, Option, Some, None, is_some, if◌then◌else◌}
 use Rattle.std.specs.List.{range_with_len}
 use Rattle.ucd.specs.declared.bidi_class.BidiClass.{BidiClass}
@@ -13,7 +13,7 @@ use Rattle.bidi.specs.declared.bracket_steps.BracketCase.{BracketCase}
 use Rattle.bidi.specs.declared.bracket_steps.BracketCase.TheVariants.{B, C1, C2, D, NotOther, NoMatch, PastLimit}
 use Rattle.bidi.specs.declared.bracket_steps.BracketStep.{BracketStep}
 
--- the index of the other bracket of the pair to which a bracket at k belongs, if any
+-- the index of the other bracket of the pair if k is the index of a bracket of a pair
 abbrev pub partner_in : List Pair → ℕ → Option ℕ
 partner_in [] k = None
 partner_in (pair ∷ pairs) k = if pair.opener == k then Some pair.closer else (if pair.closer == k then Some pair.opener else partner_in pairs k)
@@ -24,19 +24,19 @@ pair_case left sos types a b =
     if stands left types a b then B
     else (if stands (not left) types a b then (if agree left (is_left (context sos types a)) then C2 else C1) else D)
 
--- whether N0 gives a bracket a direction
+-- whether N0 gives a direction to a bracket with this case
 abbrev pub has_direction : Option BracketCase → Bool
 has_direction (Some B) = true
 has_direction (Some C1) = true
 has_direction (Some C2) = true
 has_direction case = false
 
--- the index of the first strong type of the given direction between two indices
+-- the index of the first strong type of the given direction between two indices, if there is one
 abbrev pub first_inside : Bool → List BidiClass → ℕ → ℕ → Option ℕ
 first_inside left types a b = least (λ k. is_toward left (class_at types k)) (a + 1) (b - (a + 1))
 
--- the index of the strong type inside a pair that decides: the first one of the embedding direction, or else the
--- first one of the opposite direction
+-- the index of the strong type that decides the case of a pair, if the pair contains one: the first one of
+-- the embedding direction, or else the first one of the opposite direction
 abbrev pub deciding : Bool → List BidiClass → ℕ → ℕ → Option ℕ
 deciding left types a b = if stands left types a b then first_inside left types a b else first_inside (not left) types a b
 
@@ -46,13 +46,14 @@ resolved_before embedding sos marks closer types a = fold (λ current i. pair_st
 
 -- the brackets of a sequence, given its characters and their types before N0
 module _ (bracket_of : ℕ → Option Bracket) (characters : List ℕ) (types : List BidiClass) where
-  -- BD16: whether pairing stopped too early for the bracket at k. `full` is the opening bracket at which it stopped,
-  -- if it did. The brackets from there on get no pair, and neither do the opening brackets that are still live there.
+  -- BD16: whether pairing stopped before it could find a pair for the bracket at k. `full` is the opening
+  -- bracket at which it stopped, if it did. The brackets from there on get no pair, and neither do the
+  -- opening brackets that are still live there.
   abbrev pub is_past : Option ℕ → ℕ → Bool
   is_past (Some full) k = nat_le full k || is_live bracket_of characters types (pairs_before bracket_of characters types full) k
   is_past None k = false
 
-  -- why the bracket at k has no pair
+  -- why a bracket at k has no pair, or `None` if the character is not a bracket
   abbrev pub unpaired_case : ℕ → Option BracketCase
   unpaired_case k =
       if is_some (bracket_of (slice_index characters k))
@@ -76,8 +77,8 @@ module _ (bracket_of : ℕ → Option Bracket) (embedding sos : BidiClass) (char
   abbrev pub case_at : ℕ → Option BracketCase
   case_at k = case_with k (partner_in (pairs_of bracket_of characters types) k)
 
-  -- the bracket with which N0 sets the type of the mark at k: the nearest bracket before k that gets a
-  -- direction and is followed only by marks up to k
+  -- the bracket whose direction N0 also gives to the mark at k: the nearest bracket before k that gets a
+  -- direction, if only marks follow it up to k
   abbrev pub set_by : ℕ → Option ℕ
   set_by k = greatest (λ p. has_direction (case_at p) && is_set_with (map is_mark explicit) p k) k
 

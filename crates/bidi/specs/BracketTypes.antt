@@ -4,8 +4,8 @@ use Rattle.ucd.specs.declared.bracket.Bracket.{Bracket}
 use Rattle.bidi.specs.declared.bracket_type.BracketType.{BracketType}
 use Rattle.bidi.specs.declared.bracket_type.BracketType.TheVariants.{Other, Opening, Closing}
 
--- The bracket type of c. An opening bracket is represented by the closing bracket of its pair, and a closing
--- bracket by itself.
+-- The bracket type of c. The type of an opening bracket contains the closing bracket of its pair, and that of
+-- a closing bracket contains the bracket itself.
 abbrev pub type_by : Option Bracket → ℕ → BracketType
 type_by (Some bracket) c = if bracket.opens then Opening bracket.pair else Closing c
 type_by None c = Other
@@ -14,7 +14,7 @@ type_by None c = Other
 abbrev pub bracket_types : (ℕ → Option Bracket) → List ℕ → List BracketType
 bracket_types look text = map (λ c. type_by (look c) c) text
 
--- the bracket type at an index
+-- the bracket type at an index, or `Other` past the end
 abbrev pub bracket_at : List BracketType → ℕ → BracketType
 bracket_at brackets k = slice_index_or brackets k Other
 

@@ -32,7 +32,7 @@ abbrev pub is_pair_of : Option Bracket → ℕ → Bool
 is_pair_of (Some bracket) c = canonical bracket.pair == canonical c
 is_pair_of None c = false
 
--- the greatest number below a bound that passes a test
+-- the greatest number below a bound that passes a test, if any does
 abbrev pub greatest : (ℕ → Bool) → ℕ → Option ℕ
 greatest test zero = None
 greatest test (suc k) = if test k then Some k else greatest test k
@@ -85,7 +85,7 @@ abbrev pub closer_of : List Pair → ℕ → Option ℕ
 closer_of [] i = None
 closer_of (pair ∷ pairs) i = if pair.opener == i then Some pair.closer else closer_of pairs i
 
--- whether a type counts as strong in N0: the strong types, and numbers, which count as R
+-- whether a type counts as strong in N0: strong types do, and so do numbers, which count as R
 abbrev pub is_direction : BidiClass → Bool
 is_direction L = true
 is_direction R = true
@@ -102,7 +102,7 @@ is_toward left type = is_direction type && agree left (is_left type)
 abbrev pub stands : Bool → List BidiClass → ℕ → ℕ → Bool
 stands left types a b = list_any (is_toward left) (slice_range types (a + 1) b)
 
--- the nearest strong type before an index, or sos
+-- the nearest strong type before an index, or sos if there is none
 abbrev pub context : BidiClass → List BidiClass → ℕ → BidiClass
 context sos types a = nearest is_direction sos (reverse (take a types))
 
@@ -115,15 +115,16 @@ pair_direction left sos types a b =
     if stands left types a b then Some (side left)
     else (if stands (not left) types a b then Some (side (if agree left (is_left (context sos types a)) then left else not left)) else None)
 
--- whether k is the index p of a bracket, or the index of one of the marks directly after the bracket; the
--- type of a mark was NSM before W1
+-- whether the character at k is the bracket at p or one of the marks directly after it; a mark is a character
+-- whose type was NSM before W1
 abbrev pub is_set_with : List Bool → ℕ → ℕ → Bool
 is_set_with marks p k = (p == k) || (nat_lt p k && list_all (λ mark. mark) (slice_range marks (p + 1) (k + 1)))
 
 abbrev pub set_with : List Bool → BidiClass → List BidiClass → ℕ → List BidiClass
 set_with marks direction types p = map (λ k. if is_set_with marks p k then direction else class_at types k) (range_with_len 0 (length types))
 
--- the types after both brackets of a pair have been set to its direction, if it has one
+-- the types after both brackets of a pair, and the marks directly after them, have been set to the pair's
+-- direction, if it has one
 abbrev pub set_pair : List Bool → List BidiClass → ℕ → ℕ → Option BidiClass → List BidiClass
 set_pair marks types a b (Some direction) = set_with marks direction (set_with marks direction types a) b
 set_pair marks types a b None = types

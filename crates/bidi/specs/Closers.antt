@@ -1,5 +1,5 @@
--- Bracket pairs as a list: for each index, the index of its closing bracket, or the length of the list if no
--- pair opens there.
+-- Bracket pairs as a list: for each index, the index of the closing bracket of the pair that opens there, or
+-- the length of the list if none does.
 use Rattle.std.specs.Prelude.{◌≡◌, ℕ, ◌<◌, ◌⊎◌, ◌==◌, nat_lt, List, length, map, take, slice_index, slice_set, Option, Some, None, unwrap_or, if◌then◌else◌}
 use Rattle.std.specs.List.{range_with_len}
 use Rattle.ucd.specs.declared.bidi_class.BidiClass.{BidiClass}
@@ -23,7 +23,8 @@ pub record AreNested (types : List BidiClass) (closers : List ℕ) : Type 0 wher
   pub apart : (a b : ℕ) → a < b → b < length closers → slice_index closers a < length closers → slice_index closers b < length closers
       → (slice_index closers a < b) ⊎ (slice_index closers b < slice_index closers a)
 
--- the list of closers, made from the program's list of opening brackets; an unpaired bracket has the closer `len`
+-- the list of closers for the program's list of opening brackets, in which an unpaired bracket has the closer
+-- `len`
 
 abbrev pub as_pair : BracketPair → Pair
 as_pair pair = record { opener = pair.opener; closer = pair.closer }
@@ -41,23 +42,25 @@ pub record AreInOrder (pairs : List BracketPair) (k : ℕ) : Type 0 where
 
 -- the live opening brackets during the pass that finds the pairs, the newest last
 
--- the index that the opener at position m of the stack refers to
+-- the index stored in the opener at position m of the stack
 abbrev pub index_of : List Opener → ℕ → ℕ
 index_of openers m = slice_index (map (λ (o : Opener). o.index) openers) m
 
 abbrev pub pair_of : List Opener → ℕ → ℕ
 pair_of openers m = slice_index (map (λ (o : Opener). o.pair) openers) m
 
--- the position on the stack of the newest opener that the closing bracket c matches
+-- the position on the stack of the newest opener that the closing bracket c matches, if any
 abbrev pub newest : List Opener → ℕ → Option ℕ
 newest openers c = greatest (λ m. canonical (pair_of openers m) == canonical c) (length openers)
 
--- the openers that remain after a closing bracket that matches the opener at m, if it matches any
+-- the openers that remain on the stack after a closing bracket, given the position m of the opener that it
+-- matches, if any
 abbrev pub left_by : {T : Type 0} → Option ℕ → List T → List T
 left_by (Some m) openers = take m openers
 left_by None openers = openers
 
--- the list of opening brackets, updated for the closing bracket at `place`
+-- the list of opening brackets once the closing bracket at `place` has been handled, given the position m on
+-- the stack of the opener that it matches, if any
 abbrev pub closed_by : Option ℕ → List Opener → List BracketPair → ℕ → List BracketPair
 closed_by (Some m) openers pairs place =
     slice_set pairs (index_of openers m) (record { opener = opener_at pairs (index_of openers m); closer = place })

@@ -19,7 +19,7 @@ paragraphs is_cut (a ∷ []) = (a ∷ []) ∷ []
 paragraphs is_cut (a ∷ b ∷ text) =
     if is_cut a b then (a ∷ []) ∷ paragraphs is_cut (b ∷ text) else onto_first a (paragraphs is_cut (b ∷ text))
 
--- the first index with a boundary before it
+-- the first index with a boundary before it, if there is one
 abbrev pub first_cut : (ℕ → ℕ → Bool) → List ℕ → Option ℕ
 first_cut is_cut text = least (λ k. is_cut (slice_index text (k - 1)) (slice_index text k)) 1 (length text - 1)
 
@@ -30,10 +30,11 @@ SplitsAt is_cut text (Some k) =
     (0 < k) × (k < length text) × (paragraphs is_cut text ≡ take k text ∷ paragraphs is_cut (drop k text))
 SplitsAt is_cut text None = 0 < length text → paragraphs is_cut text ≡ text ∷ []
 
--- c is a code point that is not a paragraph separator in Unicode's data files
+-- c is a code point for which `may_separate` is false, so Unicode's data files do not make it a paragraph
+-- separator
 abbrev pub MayNotSeparate : ℕ → Type 0
 MayNotSeparate c = (c < 1114112) × (may_separate c ≡ false)
 
--- none of the first n characters of a text is a paragraph separator in Unicode's data files
+-- `MayNotSeparate` holds for each of the first n characters of a text
 abbrev pub AreNoSeparators : List ℕ → ℕ → Type 0
 AreNoSeparators text n = (k : ℕ) → k < n → MayNotSeparate (slice_index text k)

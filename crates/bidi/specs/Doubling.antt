@@ -14,8 +14,8 @@ double k [] = []
 double zero (item ∷ items) = item ∷ item ∷ items
 double (suc k) (item ∷ items) = item ∷ double k items
 
--- The classes whose characters can be doubled. CS and ES are excluded, because W4 changes a single separator
--- between numbers, but not two.
+-- The classes for which doubling a character is proved to change no other level. CS and ES are excluded,
+-- because W4 changes a single separator between numbers, but not two.
 abbrev pub can_be_doubled : BidiClass → Bool
 can_be_doubled L = true
 can_be_doubled R = true
@@ -28,15 +28,15 @@ can_be_doubled WS = true
 can_be_doubled ON = true
 can_be_doubled class = false
 
--- two characters of the same class that are not brackets
+-- c and d have the same class, and neither is a bracket
 pub record AreOfOneKind (tables : Tables) (c d : ℕ) : Type 0 where
   pub class : class_of tables c ≡ class_of tables d
   pub first : bracket_of tables c ≡ None
   pub second : bracket_of tables d ≡ None
 
--- Replacing a character with one of the same kind changes no level. If a character of the same kind is inserted
--- directly after or before a character, both have the level that the character had. No other level changes, nor
--- does the paragraph level.
+-- Replacing a character with one of the same kind changes no level. Suppose that the class of a character can
+-- be doubled. If another one of the same kind is inserted directly after or before it, both have the level
+-- that it had. No other level changes, nor does the paragraph level.
 pub record DoublingKeepsLevels : Type 0 where
   pub replaced : (tables : Tables) (before after : List ℕ) (c d : ℕ) (base : Base) → AreOfOneKind tables c d
       → levels_of tables (before ++ d ∷ after) base ≡ levels_of tables (before ++ c ∷ after) base

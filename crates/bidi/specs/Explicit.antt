@@ -57,11 +57,11 @@ opens_odd RLO = true
 opens_odd RLI = true
 opens_odd class = false
 
--- the level that an opener opens: the least odd or even level above `level`
+-- the level that an opener opens: the least level above `level` that is odd or even, as `opens_odd` says
 abbrev pub level_above : BidiClass → ℕ → ℕ
 level_above opener level = if opens_odd opener then level + 1 + level % 2 else level + 2 - level % 2
 
--- the type that an override assigns to the characters inside it
+-- the type that an override assigns to the characters inside it, or `None` for other openers
 abbrev pub override_of : BidiClass → Option BidiClass
 override_of RLO = Some R
 override_of LRO = Some L
@@ -93,16 +93,18 @@ abbrev pub depth : ℕ → List BidiClass → ℕ
 depth base [] = 0
 depth base (opener ∷ outer) = if (inside base (opener ∷ outer)).is_void then depth base outer else depth base outer + 1
 
--- The index of the innermost opener that is open before index k and does not overflow: the last index before k
--- where fewer openers that do not overflow are open than at k.
+-- The index of the innermost opener that is open before index k and does not overflow, or `None` if there is
+-- none. It is the last index before which fewer openers that do not overflow are open than before k.
 abbrev pub opener_before : ℕ → List BidiClass → ℕ → Option ℕ
 opener_before base classes k = greatest (λ i. nat_lt (depth base (open_chain classes i)) (depth base (open_chain classes k))) k
 
--- the index of the opener whose level and override apply to the character at k, as in `inside_at`
+-- the index of the opener whose level and override apply to the character at k, or `None` if those of the
+-- paragraph do
 abbrev pub opener_at : ℕ → List BidiClass → ℕ → Option ℕ
 opener_at base classes k = opener_before base classes (if is_pdi (class_at classes k) then k + 1 else k)
 
--- an opener, or None for the paragraph, has the level and override that apply to the character at k
+-- the opener at the given index, or the paragraph for `None`, has the level and override that apply to the
+-- character at k
 abbrev pub Applies : ℕ → List BidiClass → ℕ → Option ℕ → Type 0
 Applies base classes k None = ((inside_at base classes k).level ≡ base) × ((inside_at base classes k).override ≡ None)
 Applies base classes k (Some i) =

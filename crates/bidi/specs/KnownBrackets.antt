@@ -1,4 +1,4 @@
--- Cached bracket types of two characters, which agree with the tables.
+-- The cached bracket types of two characters agree with the tables.
 use Rattle.std.specs.Prelude.{◌≡◌}
 use Rattle.ucd.specs.Tables.{bracket_of}
 use Rattle.ucd.specs.declared.tables.Tables.{Tables}

@@ -19,11 +19,12 @@ use Rattle.bidi.specs.Levels.{levels_of}
 use Rattle.bidi.specs.Reasons.{explicit_step, index_from, Sequence, sequences_by}
 use Rattle.bidi.specs.Sequences.{stayed}
 
--- the index of the first item of a list that equals k
+-- the index of the first item that equals k, if there is one
 abbrev pub index_of : List ℕ → ℕ → Option ℕ
 index_of items k = index_from (λ item. item == k) 0 items
 
--- BD9: the PDI that matches an isolate initiator, or the initiator that a PDI matches
+-- BD9: the position of the PDI that matches an initiator at p, or of the initiator that a PDI at p matches,
+-- if any
 abbrev pub matching : List BidiClass → ℕ → Option ℕ
 matching classes p = if is_initiator (class_at classes p) then match_of classes p else index_of (matches_of classes) p
 
@@ -41,7 +42,7 @@ module _ (kept places : List ℕ) where
     neutral = record step.neutral { left = option_map position step.neutral.left; right = option_map position step.neutral.right };
   }
 
--- what the rules W1 to I2 do with the character at index k of a sequence
+-- what the rules W1 to I2 do with the character at index k of a sequence, or `None` past its end
 abbrev pub reason_in : List ℕ → Sequence → ℕ → Option SequenceReason
 reason_in kept sequence k = option_map (λ step. record {
   sequence = position kept sequence.places 0;
@@ -52,7 +53,7 @@ reason_in kept sequence k = option_map (λ step. record {
 }) (slice_get sequence.steps k)
 
 -- what the rules W1 to I2 do with the kept character at index q, in the first sequence that contains the
--- character
+-- character, if one does
 abbrev pub resolved_in : List ℕ → List Sequence → ℕ → Option SequenceReason
 resolved_in kept [] q = None
 resolved_in kept (sequence ∷ later) q = unwrap_or (option_map (reason_in kept sequence) (index_of sequence.places q)) (resolved_in kept later q)

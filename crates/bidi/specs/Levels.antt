@@ -20,13 +20,13 @@ abbrev pub sequence_levels : (ℕ → Option Bracket) → ℕ → BidiClass → 
 sequence_levels bracket_of level sos eos characters types =
     map (implicit_level level) (neutral (direction level) sos eos (brackets bracket_of (direction level) sos characters types (weak sos types)))
 
--- writes each value to `levels`, at the index in the corresponding item of `places`
+-- writes each value to `levels`, at the index that the corresponding item of `places` gives
 abbrev pub put : List ℕ → List ℕ → List ℕ → List ℕ
 put levels (place ∷ places) (value ∷ values) = put (slice_set levels place value) places values
 put levels places values = levels
 
--- The levels of all sequences, written at their indices. The lists have one item for each character that X9
--- keeps: its code point, class, explicit level and explicit type.
+-- The levels of all sequences, written at the indices of the sequences' characters. The lists have one item
+-- for each character that X9 keeps: its code point, class, explicit level and explicit type.
 module _ (bracket_of : ℕ → Option Bracket) (base : ℕ) (characters : List ℕ) (classes : List BidiClass) (levels : List ℕ) (types : List BidiClass) where
   abbrev pub levels_in : List ℕ → List ℕ
   levels_in sequence = sequence_levels bracket_of (slice_index levels (first_of sequence))

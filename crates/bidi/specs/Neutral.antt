@@ -5,7 +5,7 @@ use Rattle.ucd.specs.declared.bidi_class.BidiClass.TheVariants.{L, R, EN, AN, B,
 use Rattle.bidi.specs.Neighbours.{each_by, nearest}
 use Rattle.bidi.specs.Weak.{is_left}
 
--- NI: the neutral types, the isolate initiators and PDI
+-- NI: whether a type is B, S, WS, ON, an isolate initiator or PDI
 abbrev pub is_neutral : BidiClass → Bool
 is_neutral B = true
 is_neutral S = true

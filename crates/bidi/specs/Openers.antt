@@ -37,7 +37,7 @@ module _ (base : ℕ) where
   overflowed_isolates (opener ∷ outer) =
       if is_initiator opener && (inside base (opener ∷ outer)).is_void then overflowed_isolates outer + 1 else overflowed_isolates outer
 
-  -- the number of overflow embeddings outside all overflow isolates
+  -- the number of embeddings and overrides that overflow, outside all isolates that overflow
   abbrev pub overflowed_embeddings : List BidiClass → ℕ
   overflowed_embeddings [] = 0
   overflowed_embeddings (opener ∷ outer) =
@@ -51,11 +51,12 @@ module _ (base : ℕ) where
     pub overflowed_isolates_are : openers.overflowed_isolates ≡ overflowed_isolates chain
     pub overflowed_embeddings_are : openers.overflowed_embeddings ≡ overflowed_embeddings chain
 
--- for every chain that `openers` belongs to, `status` is the innermost entry
+-- for every chain whose entries and counts `openers` holds, `status` is the innermost entry
 abbrev pub IsInnermost : Openers → Status → Type 0
 IsInnermost openers status = (base : ℕ) (chain : List BidiClass) → Holds base openers chain → status ≡ innermost base chain
 
--- for every chain that `openers` belongs to, `number` is the number of openers that do not overflow
+-- for every chain whose entries and counts `openers` holds, `number` is the number of its openers that do not
+-- overflow
 abbrev pub IsDepth : Openers → ℕ → Type 0
 IsDepth openers number = (base : ℕ) (chain : List BidiClass) → Holds base openers chain → number ≡ depth base chain
 
@@ -64,11 +65,11 @@ IsDepth openers number = (base : ℕ) (chain : List BidiClass) → Holds base op
 abbrev pub updated : List ℕ → ℕ → ℕ → List ℕ
 updated indices depth k = if nat_lt (length indices) depth then indices ++ k ∷ [] else take depth indices
 
--- if the old state belongs to a chain, the new state belongs to that chain after the step
+-- if `old` holds the entries and counts of a chain, `new` holds those of the chain after the step
 abbrev pub Follows : Openers → Openers → (List BidiClass → List BidiClass) → Type 0
 Follows old new step = (base : ℕ) (chain : List BidiClass) → Holds base old chain → Holds base new (step chain)
 
--- `openers` belongs to some chain
+-- `openers` holds the entries and counts of some chain
 pub record AreOpeners (openers : Openers) : Type 0 where
   pub base : ℕ
   pub chain : List BidiClass
@@ -76,7 +77,7 @@ pub record AreOpeners (openers : Openers) : Type 0 where
   pub short : length chain < 2 ^ 63
   pub holds : Holds base openers chain
 
--- `front` holds the entries below the last isolate
+-- `front` holds the entries below that of the innermost isolate
 pub record AreBeforeIsolate (front entries : List Status) : Type 0 where
   pub isolate : Status
   pub inner : List Status

@@ -1,5 +1,5 @@
--- The input for resolving the sequences of a paragraph, and the resulting levels. The input is data on each
--- character that X9 keeps.
+-- The input for resolving the sequences of a paragraph, and the resulting levels. The input describes the
+-- characters that X9 keeps.
 use Rattle.std.specs.Prelude.{◌≡◌, ℕ, ◌<◌, max, true, false, Option, None, All, List, length, map, slice_index}
 use Rattle.ucd.specs.declared.bracket.Bracket.{Bracket}
 use Rattle.bidi.specs.BracketTypes.{bracket_at, bracket_types}
@@ -19,7 +19,7 @@ use Rattle.bidi.specs.declared.sequence_levels.Brackets.{Brackets}
 abbrev pub AreFor : Brackets → ℕ → Type 0
 AreFor brackets n = brackets.has_any ≡ true → length brackets.types.now ≡ n
 
--- `brackets` holds the bracket types of a text of n characters
+-- `brackets` holds the bracket types of a text of n characters, or states that none of them is a bracket
 pub record AreBracketsOf (brackets : Brackets) (n : ℕ) (look : ℕ → Option Bracket) (text : List ℕ) : Type 0 where
   pub size : length text ≡ n
   pub types : brackets.has_any ≡ true → brackets.types.now ≡ bracket_types look text
@@ -29,7 +29,8 @@ pub record AreBracketsOf (brackets : Brackets) (n : ℕ) (look : ℕ → Option 
 abbrev pub OfAllTexts : Brackets → ℕ → ((ℕ → Option Bracket) → List ℕ → Type 0) → Type 0
 OfAllTexts brackets n holds = (look : ℕ → Option Bracket) (text : List ℕ) → AreBracketsOf brackets n look text → holds look text
 
--- the paragraph holds all data on each kept character, and the matches of all initiators
+-- `p` holds the class, level and type of each kept character, the bracket types if it has brackets, and the
+-- matches of all initiators
 pub record IsReady (p : Paragraph) : Type 0 where
   pub stayed : HasAll p.stayed.now
   pub matches : p.matches.now ≡ matches_of p.stayed.now.classes.items

@@ -20,8 +20,8 @@ module _ (is_cut : ℕ → ℕ → Bool) where
   ArePieces (piece ∷ []) = IsPiece piece
   ArePieces (piece ∷ next ∷ pieces) = IsPiece piece × IsCutBetween piece next × ArePieces (next ∷ pieces)
 
--- The paragraphs of a text are valid parts, and their concatenation is the text. Any list of valid parts is
--- the list of the paragraphs of its concatenation.
+-- The paragraphs of a text are valid parts, and their concatenation is the text. Any list of valid parts with
+-- boundaries between them is the list of the paragraphs of its concatenation.
 pub record ParagraphsArePieces : Type 0 where
   pub pieces : (is_cut : ℕ → ℕ → Bool) (text : List ℕ) → ArePieces is_cut (paragraphs is_cut text)
   pub whole : (is_cut : ℕ → ℕ → Bool) (text : List ℕ) → concat (paragraphs is_cut text) ≡ text

@@ -1,4 +1,4 @@
--- The lists from which the reasons for the levels of a paragraph are put together.
+-- The lists from which the reasons for a paragraph's levels are assembled.
 use Rattle.std.specs.Prelude.{◌≡◌, ℕ, ◌<◌, ◌==◌, List, length, map, drop, option_map, slice_index_or, unwrap_or}
 use Rattle.std.specs.List.{range_with_len}
 use Rattle.ucd.specs.declared.bidi_class.BidiClass.{BidiClass}

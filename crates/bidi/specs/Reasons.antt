@@ -39,12 +39,13 @@ abbrev pub explicit_steps : ℕ → List BidiClass → List ExplicitStep
 explicit_steps base classes = map (explicit_step base classes) (range_with_len 0 (length classes))
 
 module _ {T : Type 0} (test : T → Bool) where
-  -- the index of the nearest item that passes the test, if there is one, among the items before an index
+  -- the index of the nearest item that passes the test, if any does, in a list of the items before an index,
+  -- nearest first
   abbrev pub index_before : List T → Option ℕ
   index_before [] = None
   index_before (item ∷ before) = if test item then Some (length before) else index_before before
 
-  -- the index of the nearest item that passes the test, if there is one, among the items from index k on
+  -- the index of the first item that passes the test, if any does; the first item of the list has index k
   abbrev pub index_from : ℕ → List T → Option ℕ
   index_from k [] = None
   index_from k (item ∷ after) = if test item then Some k else index_from (suc k) after
@@ -54,7 +55,7 @@ abbrev pub each_into : {T U : Type 0} → (List T → T → List T → U) → Li
 each_into rule before [] = []
 each_into rule before (item ∷ after) = rule before item after ∷ each_into rule (item ∷ before) after
 
--- N1 and N2: whether a run of neutrals gets the direction of both sides or the embedding direction
+-- N1 and N2: which of the two rules applies to a run of neutrals, given the types on both sides
 abbrev pub rule_between : BidiClass → BidiClass → NeutralRule
 rule_between before after = if agree (is_left before) (is_left after) then N1 else N2
 
@@ -74,12 +75,14 @@ module _ (embedding sos eos : BidiClass) where
   abbrev pub neutral_steps : List BidiClass → List NeutralStep
   neutral_steps types = each_into neutral_step [] types
 
--- the result of a function for each item of a list, given the index of the item, counted from k, and the item
+-- the result of a function for each item of a list; its arguments are the item's index, counted from k, and
+-- the item
 abbrev pub numbered : {T U : Type 0} → (ℕ → T → U) → ℕ → List T → List U
 numbered f k [] = []
 numbered f k (item ∷ items) = f k item ∷ numbered f (suc k) items
 
--- the types of a sequence after each rule, at index k, given its explicit types, its types after N0 and what N0 does
+-- what each rule does with the character at index k of a sequence, given its explicit types, its types after
+-- N0 and what N0 does
 module _ (level : ℕ) (sos : BidiClass) (types paired : List BidiClass) (bracket : ℕ → BracketStep) where
   abbrev pub sequence_step : ℕ → NeutralStep → SequenceStep
   sequence_step k neutral = record {
@@ -96,7 +99,7 @@ module _ (level : ℕ) (sos : BidiClass) (types paired : List BidiClass) (bracke
     level = implicit_level level neutral.class;
   }
 
--- the steps from the types before W1 to the levels of a sequence at the given level
+-- what the rules W1 to I2 do with each character of a sequence at the given level
 abbrev pub sequence_steps : (ℕ → Option Bracket) → ℕ → BidiClass → BidiClass → List ℕ → List BidiClass → List SequenceStep
 sequence_steps bracket_of level sos eos characters types =
     let paired = brackets bracket_of (direction level) sos characters types (weak sos types) in
@@ -107,7 +110,8 @@ sequence_steps bracket_of level sos eos characters types =
 abbrev pub levels_in : List SequenceStep → List ℕ
 levels_in steps = map (λ step. step.level) steps
 
--- a sequence: the indices of its characters, its level, sos and eos, and what the rules W1 to I2 do with each character
+-- a sequence; `places` holds the indices of its characters in the list of characters that X9 keeps, and
+-- `steps` what the rules W1 to I2 do with each of them
 pub record Sequence : Type 0 where
   pub places : List ℕ
   pub level : ℕ

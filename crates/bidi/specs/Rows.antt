@@ -28,7 +28,8 @@ pub record AreLevelsSoFar (level : ℕ) (sos eos : BidiClass) (types : List Bidi
 abbrev pub is_opposite : ℕ → BidiClass → Bool
 is_opposite level type = not (agree (is_left (direction level)) (is_left type))
 
--- the level of neutrals between types that have the same direction
+-- the level of neutrals between types of the same direction; `opposite` says whether it is opposite to the
+-- embedding direction
 abbrev pub raised : ℕ → Bool → ℕ
 raised level opposite = if opposite then level + 1 else level
 

@@ -1,4 +1,4 @@
--- Level runs and isolating run sequences (UAX #9, X9, X10, BD7 and BD13). An index refers to the list of
+-- Level runs and isolating run sequences (UAX #9, X9, X10, BD7 and BD13). Indices refer to the list of
 -- characters that X9 keeps. This list contains all isolate initiators and PDIs of the paragraph, so they
 -- match in the same way as in the paragraph.
 use Rattle.std.specs.Prelude.{ℕ, ◌+◌, ◌-◌, ◌%◌, ◌==◌, max, Bool, false, ◌&&◌, not, List, [], ◌∷◌, ◌++◌, length, filter, slice_index, Option, Some, None, is_none, if◌then◌else◌}
@@ -9,7 +9,7 @@ use Rattle.ucd.specs.Classes.{class_at, is_initiator, is_removed}
 use Rattle.bidi.specs.Base.{match_of}
 use Rattle.bidi.specs.Cuts.{paragraphs}
 
--- the indices of the characters of a paragraph that X9 keeps
+-- the indices of the characters that X9 keeps in a paragraph
 abbrev pub stayed : List BidiClass → List ℕ
 stayed classes = filter (λ k. not (is_removed (class_at classes k))) (range_with_len 0 (length classes))
 

@@ -65,7 +65,7 @@ completes ArabicSeparator AN = true
 completes Terminators EN = true
 completes row type = false
 
--- what the pass writes for a type, which is ON (W6) for a type that waits
+-- the type that the pass writes in place of a type: ON (W6) if the type waits
 abbrev pub written : Row → Bool → BidiClass → BidiClass
 written row left EN = number_type left
 written row left ET = if is_after_number row then number_type left else ON
@@ -91,7 +91,7 @@ row_after row ES = after_sign row
 row_after row CS = after_comma row
 row_after row type = Nothing
 
--- the index at which the waiting run begins, after the type at `at` has been read
+-- the index at which the waiting run begins, or `at + 1` if none waits, after the type at `at` has been read
 abbrev pub start_after : Row → BidiClass → ℕ → ℕ → ℕ
 start_after row type start at = if lengthens row type then start else (if waits (row_after row type) then at else at + 1)
 

@@ -1,5 +1,5 @@
--- The entries of the tables of the pass for the weak rules. A state consists of the run that ends before an
--- index and the last strong type.
+-- The entries of the tables that the pass for the weak rules uses. A state consists of the run that ends
+-- before an index and the last strong type.
 use Rattle.std.specs.Prelude.{ℕ, ◌+◌, ◌*◌, ◌/◌, ◌%◌, Bool, true, false, ◌&&◌, not, [], ◌∷◌, get_or, if◌then◌else◌}
 use Rattle.ucd.specs.Classes.{is_strong}
 use Rattle.ucd.specs.declared.bidi_class.BidiClass.{BidiClass}
@@ -53,7 +53,7 @@ done_by run type = if completes run type then COMPLETES else (if not (lengthens 
 abbrev pub strong_after : BidiClass → BidiClass → BidiClass
 strong_after strong class = if is_strong class then class else strong
 
--- the entries of a state for a class after W1
+-- the entries of `NEXT` and `VALUES` for a state and a class after W1
 abbrev pub next_by : ℕ → BidiClass → ℕ
 next_by state class =
     let type = turned (strong_at state) class in

@@ -1,5 +1,5 @@
 //! What N0 (UAX #9) does with each character of one isolating run sequence, for callers that show how the
-//! algorithm arrives at a level. `brackets` has the fast pass.
+//! algorithm arrives at a level. The fast pass is in `brackets`.
 ghost use Rattle.std.specs.Prelude.{◌≡◌, ℕ, ◌<◌, ◌≤◌, length, map, is_some, IfOk, OnOk, List, Option};
 ghost use Rattle.std.specs.Prelude.{false, true, not, if◌then◌else◌, None, Some};
 ghost use Rattle.std.specs.List.{range_with_len};
@@ -37,27 +37,27 @@ pub enum BracketCase {
     /// The pair contains strong types of the opposite direction only, but the context before it has the
     /// embedding direction. The pair gets the embedding direction.
     C2,
-    /// The pair contains no strong type, so N0 leaves its types as they are.
+    /// The pair contains no strong type, so N0 leaves the types of its brackets as they are.
     D,
     /// The type before N0 is not ON, so the character does not count as a bracket (BD14 and BD15).
     NotOther,
     /// No other bracket of the sequence forms a pair with this one (BD16).
     NoMatch,
-    /// Pairing stopped before this bracket was paired, at an opening bracket with 63 open ones before it
+    /// Pairing stopped before this bracket was paired, because the stack already held 63 opening brackets
     /// (BD16).
     PastLimit,
 }
 
-/// What N0 does with a character of a sequence. All indices are indices in the sequence.
+/// What N0 does with a character of a sequence. Indices refer to the sequence.
 #[derive(Clone, Copy, Debug, PartialEq, Eq)]
 pub struct BracketStep {
-    /// The case that applies. `Some` for each character that is a bracket according to its bracket type.
+    /// The case that applies, or `None` if the character is not a bracket according to its bracket type.
     pub case: Option<BracketCase>,
     /// For a bracket of a pair, the other bracket. For a nonspacing mark whose type N0 sets, the bracket
-    /// before it whose direction the mark also gets.
+    /// before it whose direction the mark also gets. Otherwise `None`.
     pub partner: Option<usize>,
-    /// The strong type inside the pair that decides. In case B, this is the first one of the embedding
-    /// direction. In cases C1 and C2, it is the first strong type.
+    /// The strong type that decides the case, if the pair contains one. In case B, this is the first one of
+    /// the embedding direction. In cases C1 and C2, it is the first strong type.
     pub inside: Option<usize>,
 }
 
@@ -131,7 +131,7 @@ fn is_open(openers: &[Opener], k: usize) -> bool
     false
 }
 
-// Returns whether the unpaired bracket at `k` has no pair because pairing stopped too early.
+// Returns whether the unpaired bracket at `k` has no pair because pairing stopped before it was paired.
 fn is_past(openers: &[Opener], full: Option<usize>, k: usize) -> bool
     ensures { result ≡ is_past_by openers.now full k }
 {
@@ -141,7 +141,8 @@ fn is_past(openers: &[Opener], full: Option<usize>, k: usize) -> bool
     }
 }
 
-// Returns why a bracket has no pair. The result is not used for a bracket that has a pair.
+// Returns why a bracket has no pair, or `None` if the character is not a bracket. The result is not used for
+// a bracket that has a pair.
 fn unpaired_case(
     openers: &[Opener],
     full: Option<usize>,
@@ -181,7 +182,7 @@ fn unpaired_cases(
     Ok(list)
 }
 
-// Returns the index of the first strong type of a direction inside a pair.
+// Returns the index of the first strong type of a direction inside a pair, or `None` if there is none.
 fn first_inside(types: &[BidiClass], left: bool, opener: usize, closer: usize) -> Option<usize>
     requires order { opener < closer }
     requires within { closer ≤ length types.now }
@@ -206,8 +207,8 @@ fn opposite_case(types: &[BidiClass], left: bool, sos: BidiClass, opener: usize)
     }
 }
 
-// Returns the case of a pair, and the index of the strong type that decides. Pairs are nested at most 63
-// deep, so all these searches together read each type at most 126 times.
+// Returns the case of a pair, and the index of the strong type that decides the case, if any. Pairs are
+// nested at most 63 deep, so the searches for all pairs together read each type at most 126 times.
 fn decide(
     types: &[BidiClass],
     left: bool,
@@ -231,7 +232,7 @@ fn decide(
     (BracketCase::D, other)
 }
 
-// Returns the direction that a pair gets.
+// Returns the direction that a pair gets, or `None` if it gets none.
 fn direction_in(left: bool, case: BracketCase) -> Option<BidiClass>
     ensures { result ≡ direction_in left case }
 {
@@ -243,7 +244,8 @@ fn direction_in(left: bool, case: BracketCase) -> Option<BidiClass>
     }
 }
 
-// Finds the case of the pair that opens at an index, if there is one, and sets the pair's types.
+// Finds the case of the pair that opens at an index, if there is one. Sets the types of its brackets, and of
+// the marks after them, if the pair gets a direction.
 fn resolve_at(
     types: &mut [BidiClass],
     explicit: &[BidiClass],
@@ -276,8 +278,8 @@ fn resolve_at(
     }
 }
 
-// Resolves the pairs in the order of their opening brackets. Returns what N0 decides for each of them.
-// `types` holds the types before N0, and then those after it.
+// Resolves the pairs in the order of their opening brackets. Returns what N0 decides for the pair that opens
+// at each index. `types` holds the types before N0, and then those after it.
 fn resolve_all(
     alloc: Global,
     types: &mut [BidiClass],
@@ -308,7 +310,7 @@ fn has_direction(case: Option<BracketCase>) -> bool
     )
 }
 
-// Returns the bracket with which N0 sets the type of the next character if that is a mark.
+// Returns the bracket whose direction N0 also gives to the next character if that is a mark, or `None`.
 fn held_after(
     case: Option<BracketCase>,
     explicit: BidiClass,

@@ -1,5 +1,5 @@
-//! Bracket types: whether a character opens or closes a pair of brackets, and which pair (UAX #9, BD14 and
-//! BD15).
+//! Bracket types: whether a character is an opening or a closing bracket, and which brackets it can pair with
+//! (UAX #9, BD14 and BD15).
 ghost use Rattle.std.specs.Prelude.{◌≡◌, ◌<◌, ◌≤◌, ℕ, false, length, slice_index_or, Bool};
 ghost use Rattle.ucd.specs.Tables.{bracket_of};
 ghost use Rattle.bidi.specs.BracketTypes.{is_bracket, type_by};
@@ -7,10 +7,10 @@ ghost use Rattle.bidi.specs.Plain.{has_bracket_in};
 
 use ucd::{Properties, Tables};
 
-/// The bracket type of a character. An opening and a closing bracket form a pair if they have the same
+/// The bracket type of a character. An opening and a closing bracket can form a pair if they have the same
 /// number. In bracket types derived from tables, the number is the code point of the pair's closing bracket.
-/// U+2329 counts as U+3008, and U+232A as U+3009. Other callers may use any numbers, provided that both
-/// brackets of a pair have the same number.
+/// U+2329 counts as U+3008, and U+232A as U+3009. Callers that choose bracket types without tables may use
+/// any numbers that are the same for both brackets of a pair.
 #[derive(Clone, Copy, Debug, PartialEq, Eq)]
 pub enum BracketType {
     /// Not a bracket.

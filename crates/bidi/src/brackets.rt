@@ -21,7 +21,7 @@ use crate::bracket_type::{BracketType, next_bracket};
 use std::alloc::{AllocError, Global};
 use ucd::BidiClass;
 
-/// The maximum number of open brackets on the stack (BD16).
+/// The maximum number of opening brackets on the stack (BD16).
 pub(crate) const MAX_OPENERS: usize = 63;
 
 // An opening bracket on the stack: its index, and the number of its bracket type. Here, the index refers to
@@ -147,7 +147,7 @@ pub(crate) fn copy_types(from: &[BidiClass], to: &mut Vec<BidiClass>) -> Result<
     to.extend_from_slice(from)
 }
 
-// Replaces the contents of `pairs` with the opening brackets in text order, and with their closing brackets.
+// Replaces the contents of `pairs` with the opening brackets in text order, each with its closing bracket.
 // Stops at an opening bracket that no longer fits on the stack. Returns whether any pair was found.
 fn find_pairs(
     kinds: &[BracketType],
@@ -221,8 +221,8 @@ fn is_toward(left: bool, class: BidiClass) -> bool
     }
 }
 
-// Sets the types of each pair to its direction, in the order of the opening brackets (N0). `before` holds the
-// types before N0.
+// Sets the types of each pair's brackets, and of the marks after them, to the pair's direction, in the order
+// of the opening brackets (N0). `before` holds the types before N0.
 fn resolve_brackets(
     types: &mut [BidiClass],
     before: &[BidiClass],
@@ -286,8 +286,8 @@ fn stands_inside(
     }
 }
 
-// Returns the direction of a pair. `has_same` says whether the pair contains a strong type of the embedding
-// direction, and `has_other` whether it contains one of the other direction.
+// Returns the direction of a pair, or `None` if it gets none. `has_same` says whether the pair contains a
+// strong type of the embedding direction, and `has_other` whether it contains one of the other direction.
 fn pair_direction(
     types: &[BidiClass],
     place: usize,
@@ -310,8 +310,8 @@ fn pair_direction(
     }
 }
 
-// Returns the nearest strong type before an index, or `sos`. Called only for a pair that then gets a
-// direction, so the search for a later pair stops at this pair.
+// Returns the nearest strong type before an index, or `sos` if there is none. Called only for a pair that
+// then gets a direction, so the search for a later pair stops at this pair.
 pub(crate) fn strong_before(types: &[BidiClass], place: usize, sos: BidiClass) -> BidiClass
     requires { place ≤ length types.now }
     ensures { result ≡ context sos types.now place }

@@ -27,8 +27,8 @@ fn may_separate(c: char) -> bool
     (c < ' ') | (c == '\u{85}') | (c == '\u{2029}')
 }
 
-// Returns whether any character may end a paragraph. All characters are tested, so the compiler can vectorize
-// the loop.
+// Returns whether any of the characters may end a paragraph. Tests all of them, so that the compiler can
+// vectorize the loop.
 #[inline(always)]
 fn any_may_separate(text: &[char]) -> bool
     ensures { result ≡ false → AreNoSeparators text.now (length text.now) }
@@ -40,7 +40,7 @@ fn any_may_separate(text: &[char]) -> bool
     any
 }
 
-// Returns the index of the first character that may end a paragraph, or the length.
+// Returns the index of the first character that may end a paragraph, or the length if there is none.
 fn first_separator(text: &[char]) -> usize
     ensures within { result ≤ length text.now }
     ensures before { AreNoSeparators text.now result }

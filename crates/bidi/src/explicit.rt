@@ -14,11 +14,11 @@ use ucd::BidiClass;
 /// The maximum explicit level (BD2).
 const MAX_DEPTH: u8 = 125;
 
-/// The capacity of the stack of X1: one entry for each explicit level, and two more.
+/// The capacity of the stack of X1: `MAX_DEPTH` + 2 entries.
 const MAX_ENTRIES: usize = 127;
 
-/// The class, explicit level and explicit type of each character of a paragraph that X9 keeps, in order. The
-/// lists are reused for each paragraph.
+/// The class, explicit level and explicit type of each character that X9 keeps in a paragraph, in text order.
+/// The lists are reused for each paragraph.
 #[derive(Drop)]
 pub(crate) struct Stayed {
     pub classes: Vec<BidiClass>,
@@ -99,7 +99,8 @@ impl Openers {
         }
     }
 
-    // Returns the state inside the innermost open embedding, override or isolate.
+    // Returns the state inside the innermost open embedding, override or isolate that did not overflow, or
+    // the paragraph's state if there is none.
     pub fn status(&self) -> Status
         requires { AreOpeners self.now }
         ensures { IsInnermost self.now result }
@@ -116,7 +117,7 @@ impl Openers {
         self.statuses.len() - 1
     }
 
-    // Opens an embedding, an override or an isolate.
+    // Opens an embedding, an override or an isolate. If it overflows, changes only the overflow counts.
     fn open(&mut self, opener: BidiClass)
         requires { AreOpeners self.old }
         ensures { Follows self.old self.new (λ chain. opener ∷ chain) }
@@ -168,8 +169,8 @@ impl Openers {
         }
     }
 
-    // Closes an isolate if the character is a PDI. The state of the PDI itself is read afterwards, because
-    // the PDI is outside the isolate.
+    // Closes the innermost isolate if the character is a PDI. The state of the PDI itself is read afterwards,
+    // because the PDI is outside the isolate.
     pub fn reach(&mut self, class: BidiClass)
         requires { AreOpeners self.old }
         ensures { Follows self.old self.new (λ chain. if is_pdi class then close_isolate chain else chain) }
@@ -179,8 +180,8 @@ impl Openers {
         }
     }
 
-    // Handles a character other than PDI, which may open or close an embedding, override or isolate. The
-    // character's own state is read before this, because an isolate initiator is outside its isolate.
+    // Opens an embedding, override or isolate, or closes an embedding or override, if the character does so.
+    // The character's own state is read before this, because an isolate initiator is outside its isolate.
     pub fn pass(&mut self, class: BidiClass)
         requires { AreOpeners self.old }
         ensures { Follows self.old self.new
@@ -233,7 +234,7 @@ fn override_of(opener: BidiClass) -> Option<BidiClass>
     }
 }
 
-// Adds the class, level and type of a character that X9 keeps.
+// Appends to `stayed` the class, explicit level and explicit type of a character that X9 keeps.
 fn push_character(
     stayed: &mut Stayed,
     status: Status,
@@ -253,8 +254,8 @@ fn push_character(
     }
 }
 
-/// Replaces the contents of `stayed` with the characters of a paragraph that X9 keeps. In `classes`, each FSI
-/// must already be replaced by LRI or RLI.
+/// Replaces the contents of `stayed` with the class, level and type of each character that X9 keeps in a
+/// paragraph. In `classes`, each FSI must already be replaced by LRI or RLI.
 pub(crate) fn explicit(
     classes: &[BidiClass],
     base: u8,

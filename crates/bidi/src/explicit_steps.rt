@@ -1,6 +1,6 @@
-//! The explicit level and type of each character of a paragraph (UAX #9, X1 to X8), for callers that
-//! show how the algorithm arrives at a level. `explicit` has the fast pass, which skips the characters
-//! that X9 removes.
+//! The explicit level and type of each character of a paragraph (UAX #9, X1 to X8), for callers that show how
+//! the algorithm arrives at a level. The fast pass, which skips the characters that X9 removes, is in
+//! `explicit`.
 ghost use Rattle.std.specs.Prelude.{◌≡◌, ℕ, ◌-◌, ◌<◌, ◌≤◌, ◌==◌, length, slice_index, unwrap_or, IfOk};
 ghost use Rattle.std.specs.Prelude.{OnOk, if◌then◌else◌};
 ghost use Rattle.ucd.specs.Classes.{is_separator};
@@ -21,8 +21,9 @@ pub struct ExplicitStep {
     pub class: BidiClass,
     /// The direction of the override that applies to the character, if any.
     pub overriding: Option<BidiClass>,
-    /// The index of the innermost open embedding, override or isolate initiator that does not overflow. Its
-    /// level and override apply to the character. A paragraph separator still has the paragraph level.
+    /// The index of the innermost open embedding, override or isolate initiator that does not overflow, if
+    /// any. Its level and override apply to the character. A paragraph separator still has the paragraph
+    /// level.
     pub opener: Option<usize>,
 }
 
@@ -62,8 +63,8 @@ fn last(indices: &[usize]) -> Option<usize>
     }
 }
 
-// Updates the indices of the open openers that do not overflow. `depth` is the number of these openers after
-// the character at `k`, which opens at most one.
+// Updates the indices of the openers that are open and do not overflow. `depth` is the number of these
+// openers after the character at `k`, which opens at most one.
 fn update(indices: &mut Vec<usize>, depth: usize, k: usize) -> Result<(), AllocError>
     ensures { OnOk result (indices.new.items ≡ updated indices.old.items depth k) }
 {

@@ -138,8 +138,8 @@ fn acting_class(classes: &[BidiClass], matches: &[usize], at: usize) -> BidiClas
     }
 }
 
-// Returns the level of the first strong character between an initiator and its match. Skips each nested
-// isolate in one step.
+// Returns the level of the first strong character between an initiator and its match, or the end of the list
+// if it has no match. Skips each nested isolate in one step. Returns `None` if there is no such character.
 fn first_strong_level(classes: &[BidiClass], matches: &[usize], initiator: usize) -> Option<u8>
     requires within { initiator < length classes.now }
     requires opens { is_initiator (class_at classes.now initiator) ≡ true }

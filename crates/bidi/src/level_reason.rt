@@ -39,14 +39,14 @@ pub struct SequenceReason {
     pub step: SequenceStep,
 }
 
-/// How the algorithm arrives at the level of a character. All positions are in the paragraph.
+/// How the algorithm arrives at the level of a character. Positions are indices in the paragraph.
 #[derive(Clone, Copy)]
 pub struct LevelReason {
     /// The class of the character. Unlike in `ParagraphReasons`, an FSI is not replaced.
     pub class: BidiClass,
     /// What X1 to X8 do with the character.
     pub explicit: ExplicitStep,
-    /// The PDI that matches an isolate initiator, or the initiator that a PDI matches (BD9).
+    /// The PDI that matches an isolate initiator, or the initiator that a PDI matches, if any (BD9).
     pub matching: Option<usize>,
     /// The level, as `resolve` returns it.
     pub level: u8,
@@ -103,7 +103,7 @@ fn moved(kept: &[usize], places: &[usize], step: SequenceStep) -> SequenceStep
     }
 }
 
-// Returns what the rules do with the character at index `k` of a sequence.
+// Returns what the rules do with the character at index `k` of a sequence, or `None` past its end.
 fn reason_in(kept: &[usize], sequence: &SequenceReasons, k: usize) -> Option<SequenceReason>
     ensures { result ≡ reason_in kept.now (sequence_of sequence.now) k }
 {
@@ -120,8 +120,8 @@ fn reason_in(kept: &[usize], sequence: &SequenceReasons, k: usize) -> Option<Seq
     })
 }
 
-// Writes what the rules do with each character of a sequence, at its index among the kept characters. If an
-// index occurs twice in the sequence, the first counts.
+// Writes what the rules do with each character of a sequence to `list`, at the character's index among the
+// kept characters. If an index occurs twice in the sequence, the first counts.
 fn put_reasons(
     kept: &[usize],
     sequence: &SequenceReasons,
@@ -152,7 +152,7 @@ fn put_indices(items: &[usize], list: &mut [Option<usize>])
     }
 }
 
-// Returns, for each number below `len`, the index of the first item that equals it.
+// Returns, for each number below `len`, the index of the first item that equals it, or `None` if none does.
 fn indices_of(alloc: Global, items: &[usize], len: usize) -> Result<Vec<Option<usize>>, AllocError>
     ensures { IfOk result (λ list. list.items ≡ map (index_of items.now) (range_with_len 0 len)) }
 {
@@ -178,9 +178,9 @@ fn resolved_in(
     Ok(list)
 }
 
-// Lists with an item for each character. In `classes`, each FSI is replaced by LRI or RLI. `initiators` has
-// the initiators that PDIs match, and `indices` the indices among the kept characters. `resolved` has an
-// item for each kept character only.
+// Lists with an item for each character, except `resolved`, which has one for each kept character. In
+// `classes`, each FSI is replaced by LRI or RLI. `initiators` has the initiator that each PDI matches, and
+// `indices` the index of each kept character among the kept characters.
 #[derive(Clone, Copy)]
 struct Parts<'a> {
     classes: &'a [BidiClass],
@@ -192,7 +192,7 @@ struct Parts<'a> {
     resolved: &'a [Option<SequenceReason>],
 }
 
-// Returns the PDI that matches an isolate initiator, or the initiator that a PDI matches.
+// Returns the PDI that matches an isolate initiator, or the initiator that a PDI matches, if any.
 fn matching(parts: &Parts<'_>, p: usize) -> Option<usize>
     requires sized { AreSized (length parts.now.classes.now) parts.now }
     requires within { p < length parts.now.classes.now }
@@ -236,8 +236,8 @@ fn resolved_at(parts: &Parts<'_>, p: usize) -> Option<SequenceReason>
     }
 }
 
-// Returns the character that determines the level of a character that X9 removes, or `None` for other
-// classes. `before` is the last kept character before the character.
+// If X9 removes characters of this class, returns the character that determines the level: `before`, the last
+// kept character before this one. Otherwise, returns `None`.
 fn level_from(class: BidiClass, before: Option<usize>) -> Option<usize>
     ensures { result ≡ (if is_removed class then before else None) }
 {
@@ -297,7 +297,8 @@ fn list_of(
 }
 
 /// Returns the reasons for the levels of one paragraph, with one item for each character. The text need not
-/// be a paragraph: it may be any list of characters. The time is proportional to the length of the text.
+/// be a single paragraph: any list of characters is allowed. The time is proportional to the length of the
+/// text.
 pub fn level_reasons(
     alloc: Global,
     tables: &Tables,

@@ -36,7 +36,8 @@ pub(crate) struct Work {
 }
 
 // Reused lists for the sequences of the characters that X9 keeps. They hold the matches of the isolate
-// initiators, the starts of the runs that continue an earlier run, one sequence, and the levels found so far.
+// initiators, flags for the starts of the runs that continue an earlier run, one sequence, and the levels
+// found so far.
 #[derive(Drop)]
 struct Lists {
     isolates: Isolates,
@@ -137,8 +138,8 @@ fn any_stayed_brackets(
     stayed_brackets(all.types, classes, brackets)
 }
 
-// Writes the levels of all characters. A character that X9 removed gets the level of the nearest kept
-// character before it, or the paragraph level if there is none.
+// Replaces the contents of `levels` with the levels of all characters. A character that X9 removed gets the
+// level of the nearest kept character before it, or the paragraph level if there is none.
 fn put_back(
     classes: &[BidiClass],
     base: u8,

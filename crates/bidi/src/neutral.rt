@@ -42,7 +42,7 @@ pub(crate) fn resolve_neutral(
     }
 }
 
-// Writes the embedding level for the run of neutrals that ends at `end`.
+// Sets the levels of the run of neutrals that ends at `end` to the embedding level.
 #[cold]
 #[inline(never)]
 fn lower_run(types: &[BidiClass], level: u8, end: usize, levels: &mut [u8])

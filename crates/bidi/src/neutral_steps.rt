@@ -1,6 +1,6 @@
 //! The neutral rules (UAX #9, N1 and N2) for the types of one isolating run sequence, and what these rules
-//! read. This module is for callers that show how the algorithm arrives at a level. `neutral` has the fast
-//! pass.
+//! read. This module is for callers that show how the algorithm arrives at a level. The fast pass is in
+//! `neutral`.
 ghost use Rattle.std.specs.Prelude.{◌≡◌, ◌≤◌, drop, length, not, IfOk};
 ghost use Rattle.bidi.specs.Neighbours.{nearest};
 ghost use Rattle.bidi.specs.Neutral.{between, is_neutral};
@@ -27,9 +27,9 @@ pub struct NeutralStep {
     pub class: BidiClass,
     /// The rule that decides, if the type is neutral.
     pub rule: Option<NeutralRule>,
-    /// The index of the type before the run of neutrals, or `None` for sos.
+    /// The index of the type before the run of neutrals, or `None` for sos or if the type is not neutral.
     pub left: Option<usize>,
-    /// The index of the type after the run of neutrals, or `None` for eos.
+    /// The index of the type after the run of neutrals, or `None` for eos or if the type is not neutral.
     pub right: Option<usize>,
 }
 

@@ -1,25 +1,26 @@
-//! The tables of the pass for the neutral and implicit rules (UAX #9, N1, N2, I1 and I2). Each table has a
-//! row for even levels and one for odd levels. A row has an entry for each bidi class. Each entry is proved
-//! correct.
+//! The tables for the pass that applies the neutral and implicit rules (UAX #9, N1, N2, I1 and I2). Each
+//! table has a row for even levels and one for odd levels. A row has an entry for each bidi class. Each entry
+//! is proved correct.
 ghost use Rattle.std.specs.Prelude.{◌≡◌, ◌≤◌};
 ghost use Rattle.bidi.specs.Rows.{above, turn};
 
 use crate::weak_table::ROW_LEN;
 use ucd::BidiClass;
 
-/// 1 for a neutral type, or else twice the rise of the neutrals next to the type.
+/// 1 for a neutral type, or else twice the number of levels by which neutrals between two such types rise.
 pub static TURNS: [u8; 2 * ROW_LEN] = [
     0, 2, 2, 2, 2, 2, 2, 2, 2, 2, 1, 1, 1, 1, 2, 2, 2, 2, 2, 1, 1, 1, 1, 0, 0, 0, 0, 0, 0, 0, 0, 0,
     2, 0, 0, 0, 0, 0, 0, 0, 0, 0, 1, 1, 1, 1, 0, 0, 0, 0, 0, 1, 1, 1, 1, 2, 2, 2, 2, 2, 2, 2, 2, 2,
 ];
 
-/// How far the level of a type is above the level of the neutrals next to it, plus 1.
+/// How many levels a type is above the neutrals next to it, plus 1, if these are between types of the same
+/// direction.
 pub static ABOVE: [u8; 2 * ROW_LEN] = [
     1, 1, 0, 2, 0, 0, 2, 0, 0, 0, 1, 1, 1, 1, 0, 0, 0, 0, 0, 1, 1, 1, 1, 1, 1, 1, 1, 1, 1, 1, 1, 1,
     1, 1, 1, 2, 1, 1, 2, 1, 1, 1, 1, 1, 1, 1, 1, 1, 1, 1, 1, 1, 1, 1, 1, 1, 1, 1, 1, 1, 1, 1, 1, 1,
 ];
 
-/// Returns the entry of `TURNS` for a class.
+/// Returns the entry of `TURNS` for a level and a class.
 pub fn turn(level: u8, class: BidiClass) -> u8
     ensures entry { result ≡ turn level class }
     ensures bounded { result ≤ 2 }
@@ -27,7 +28,7 @@ pub fn turn(level: u8, class: BidiClass) -> u8
     TURNS[(level % 2) as usize * ROW_LEN + class as usize]
 }
 
-/// Returns the entry of `ABOVE` for a class.
+/// Returns the entry of `ABOVE` for a level and a class.
 pub fn above(level: u8, class: BidiClass) -> u8
     ensures entry { result ≡ above level class }
     ensures bounded { result ≤ 2 }

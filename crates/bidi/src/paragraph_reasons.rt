@@ -152,8 +152,8 @@ fn with_steps(
     })
 }
 
-/// Returns how the algorithm arrives at the levels of one paragraph. The text need not be a paragraph: it may
-/// be any list of characters. The time is proportional to the length of the text.
+/// Returns how the algorithm arrives at the levels of one paragraph. The text need not be a single paragraph:
+/// any list of characters is allowed. The time is proportional to the length of the text.
 pub fn reasons(
     alloc: Global,
     tables: &Tables,

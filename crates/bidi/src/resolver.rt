@@ -1,4 +1,4 @@
-//! Finds the levels of paragraphs before L1 (UAX #9, X1 to I2), reusing its lists.
+//! A resolver, which finds the levels of paragraphs before L1 (UAX #9, X1 to I2) and reuses its lists.
 ghost use Rattle.std.specs.Prelude.{◌≡◌, ℕ, ◌<◌, ◌≤◌, map, length, replicate, IfOk, List, OnErr, OnOk};
 ghost use Rattle.std.specs.Prelude.{vec_capacity};
 ghost use Rattle.std.specs.Prelude.{Option, true, false, slice_index_or, take};
@@ -110,8 +110,8 @@ fn are_classes_flat(classes: &[BidiClass], base: u8) -> bool
     flat
 }
 
-// The group size for paragraphs shorter than `GROUP`. In even shorter paragraphs, characters are tested one
-// by one.
+// The group size for paragraphs shorter than `GROUP`. In paragraphs shorter than `SMALL_GROUP`, characters
+// are tested one by one.
 const SMALL_GROUP: usize = 8;
 
 // Returns whether no character raises a level above the base level, given the properties of the characters.
@@ -289,7 +289,7 @@ fn put_each(properties: &[Properties], classes: &mut [BidiClass]) -> Summary
     put_inlined(properties, classes)
 }
 
-// The loop of `put_group` and `put_each`.
+// Does the same as `put_classes`. Contains the loop of `put_group` and `put_each`.
 #[inline(always)]
 fn put_inlined(properties: &[Properties], classes: &mut [BidiClass]) -> Summary
     requires { length classes.old ≡ length properties.now }
@@ -349,7 +349,7 @@ fn put_brackets(
 }
 
 // A cache of the bracket types of two characters. `first` is the one last looked up in the tables. Most texts
-// have only one kind of brackets.
+// use only one kind of bracket.
 #[derive(Clone, Copy)]
 struct Known {
     first: char,
@@ -391,7 +391,7 @@ impl Known {
     }
 }
 
-// Replaces the contents of `brackets` with the bracket types of a text, but only if it has any brackets.
+// If `has_any` is true, replaces the contents of `brackets` with the bracket types of a text.
 fn fill_any_brackets(
     tables: &Tables,
     text: &[char],
@@ -419,8 +419,8 @@ fn put_base(levels: &mut Vec<u8>, len: usize, base: u8) -> Result<(), AllocError
     Ok(())
 }
 
-/// Finds the levels of paragraphs, reusing its lists. Does not allocate for a paragraph if the lists have
-/// enough capacity.
+/// Finds the levels of paragraphs, and keeps its lists from one paragraph to the next. Does not allocate for
+/// a paragraph if the lists have enough capacity.
 pub struct Resolver {
     classes: Vec<BidiClass>,
     brackets: Vec<BracketType>,
@@ -458,8 +458,8 @@ impl Resolver {
 
     /// Returns the base level of one paragraph, 0 or 1. Replaces the contents of `levels` with the level of
     /// each character, from 0 to 126, before L1 is applied. `properties` must be the properties of the text's
-    /// characters. The text need not be a paragraph: it may be any list of characters. After an allocation
-    /// failure, the resolver can be used again, and the contents of `levels` are unspecified.
+    /// characters. The text need not be a single paragraph: any list of characters is allowed. After an
+    /// allocation failure, the resolver can be used again, and the contents of `levels` are unspecified.
     pub fn resolve(
         &mut self,
         tables: &Tables,
@@ -488,7 +488,8 @@ impl Resolver {
         Ok(level)
     }
 
-    // Finds the levels of a paragraph with a given base level, without the fast path for equal levels.
+    // Finds the levels of a paragraph with a given base level, without the fast path for paragraphs in which
+    // all levels are equal.
     fn resolve_raised(
         &mut self,
         tables: &Tables,
@@ -523,9 +524,9 @@ impl Resolver {
     }
 
     /// Returns the base level of one paragraph, 0 or 1. Replaces the contents of `levels` with the level of
-    /// each character, from 0 to 126, before L1 is applied. The levels depend on the classes and bracket
-    /// types alone: any text and tables with the same classes and bracket types have the same levels.
-    /// `classes` may be any list: it need not come from a paragraph. After an allocation failure, the
+    /// each character, from 0 to 126, before L1 is applied. Besides `base`, the levels depend only on the
+    /// classes and bracket types: any text and tables with the same classes and bracket types have the same
+    /// levels. `classes` may be any list: it need not come from a paragraph. After an allocation failure, the
     /// resolver can be used again, and the contents of `levels` are unspecified.
     pub fn resolve_by(
         &mut self,
@@ -608,7 +609,7 @@ pub(crate) fn properties_of(
 }
 
 /// Returns the level, from 0 to 126, of each character of one paragraph before L1 (UAX #9, X1 to I2). The
-/// text need not be a paragraph: it may be any list of characters.
+/// text need not be a single paragraph: any list of characters is allowed.
 pub fn resolve(
     alloc: Global,
     tables: &Tables,
@@ -629,8 +630,8 @@ pub fn resolve(
 }
 
 /// Returns the level, from 0 to 126, of each character of one paragraph before L1 (UAX #9, X1 to I2), given
-/// the classes and bracket types of its characters. Any text and tables with the same classes and bracket
-/// types have the same levels. `classes` may be any list: it need not come from a paragraph.
+/// the classes and bracket types of its characters. For the same `base`, any text and tables with these
+/// classes and bracket types have these levels. `classes` may be any list: it need not come from a paragraph.
 pub fn resolve_by(
     alloc: Global,
     classes: &[BidiClass],

@@ -28,7 +28,7 @@ pub(crate) struct Brackets<'a> {
     pub has_any: bool,
 }
 
-/// The characters that X9 keeps, and the data on them that is known before their sequences are resolved.
+/// What is known about the characters that X9 keeps before their sequences are resolved.
 #[derive(Clone, Copy)]
 pub(crate) struct Paragraph<'a> {
     pub brackets: Brackets<'a>,
@@ -310,7 +310,7 @@ impl Sequence {
     }
 }
 
-// Marks the start `next` of a run that continues an earlier run, if there is one.
+// Sets the flag at `next`, the start of a run that continues an earlier run, if there is one.
 pub(crate) fn mark(continued: &mut [bool], next: Option<usize>)
     requires { IfSome next (λ place. place < length continued.old) }
     ensures { continued.new ≡ marked continued.old next }

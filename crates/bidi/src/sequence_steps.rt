@@ -1,5 +1,5 @@
-//! What the rules W1 to I2 (UAX #9) do with the types of one isolating run sequence, for callers that
-//! show how the algorithm arrives at a level. `sequence_levels` has the fast pass.
+//! What the rules W1 to I2 (UAX #9) do with the types of one isolating run sequence, for callers that show
+//! how the algorithm arrives at a level. The fast pass is in `sequence_levels`.
 ghost use Rattle.std.specs.Prelude.{◌≡◌, ℕ, ◌≤◌, length, map, IfOk, List, Option};
 ghost use Rattle.std.specs.List.{range_with_len};
 ghost use Rattle.ucd.specs.Classes.{class_at};
@@ -178,7 +178,7 @@ fn pair(
     Ok(paired)
 }
 
-// Returns the steps, given the types after each rule and what N0 does.
+// Returns the steps, given the types after each of the rules W1 to N0, and what N0, N1 and N2 do.
 fn gather_steps(
     alloc: Global,
     weak: &WeakSteps,

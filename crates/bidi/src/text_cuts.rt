@@ -18,9 +18,9 @@ const AT_ONCE: usize = 32;
 // The number of bytes that the tests at these positions read.
 const BLOCK: usize = AT_ONCE + 2;
 
-/// Finds the first paragraph boundary in `before` followed by `text`. Returns its byte index in `text`, or
-/// `None` if there is no boundary. `before` must contain no boundary. A boundary between `before` and `text`
-/// has index 0.
+/// Finds the first paragraph boundary in the concatenation of `before` and `text`. Returns its byte index in
+/// `text`, or `None` if there is no boundary. `before` must contain no boundary. A boundary between `before`
+/// and `text` has index 0.
 pub fn first_cut_in_text(tables: &Tables, before: &[char], text: &str) -> Option<usize>
     requires uncut { SplitsAt (cut (class_of tables.now)) before.now None }
     ensures { FindsEndAfter (cut (class_of tables.now)) before.now text.now result }
@@ -49,7 +49,7 @@ fn begins_after(tables: &Tables, last: Option<char>, text: &str) -> bool
     is_cut(tables, last, first)
 }
 
-// Returns the length in bytes of a text's first paragraph, if another paragraph follows it.
+// Returns the length in bytes of a text's first paragraph, or `None` if no other paragraph follows it.
 fn first_end(tables: &Tables, text: &str, is_usual: bool) -> Option<usize>
     requires { is_usual ≡ true → AreUsual (cut (class_of tables.now)) }
     ensures { FindsEnd (cut (class_of tables.now)) text.now result }
@@ -85,7 +85,7 @@ fn plain_len(text: &str, is_usual: bool) -> usize
     }
 }
 
-// Returns the index of the first byte that may begin a paragraph separator, or the length.
+// Returns the index of the first byte that may begin a paragraph separator, or the length if there is none.
 fn next_lead(bytes: &[u8]) -> usize
     ensures within { result ≤ length bytes.now }
     ensures before { (k : ℕ) → k < result → leads_at bytes.now k ≡ false }
@@ -134,8 +134,8 @@ fn first_lead(block: &[u8]) -> usize
     }
 }
 
-// Returns a bit for each of the first `AT_ONCE` positions of a block, which is set if a paragraph separator
-// may begin there.
+// Returns a bit mask in which bit k is set if a paragraph separator may begin at position k of a block, for
+// each k below `AT_ONCE`.
 #[inline(always)]
 fn leads_in(block: &[u8]) -> u64
     requires { length block.now ≡ BLOCK }

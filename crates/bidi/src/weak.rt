@@ -29,8 +29,8 @@ struct State {
 const GROUP: usize = 8;
 
 /// Applies W1 to W7 in one pass. A separator, or a run of terminators, is pending while a later type may
-/// still turn it into a number. A pending type is ON. Groups of types that only W3 changes are read without
-/// the tables, so that the next type need not wait for a table entry.
+/// still turn it into a number. Pending types are set to ON. Groups of types that no rule but W3 can change
+/// are read without the tables, so that the next type need not wait for a table entry.
 #[inline(never)] // so that the loop has all registers
 pub(crate) fn resolve_weak(types: &mut [BidiClass], sos: BidiClass)
     requires side { is_side sos ≡ true }
@@ -82,7 +82,7 @@ fn read_each(types: &mut [BidiClass], begin: usize, end: usize, state: State) ->
     State { before, row, start }
 }
 
-// Applies the rules to types that only W3 changes, without the tables.
+// Applies the rules to types that no rule but W3 can change, without the tables.
 #[inline(always)] // so that the loop over a group knows its length
 fn read_simple(types: &mut [BidiClass], begin: usize, end: usize, state: State) -> State
     requires state { IsState state.row state.start begin }
@@ -110,8 +110,8 @@ fn read_simple(types: &mut [BidiClass], begin: usize, end: usize, state: State) 
     }
 }
 
-// Returns whether only W3 changes the types. The loop has no branches, so the compiler can test several types
-// at a time.
+// Returns whether no rule but W3 can change any of the types. The loop has no branches, so the compiler can
+// test several types at a time.
 #[inline(always)]
 fn are_simple(types: &[BidiClass]) -> bool
     ensures { result ≡ list_all is_simple types.now }
@@ -123,15 +123,15 @@ fn are_simple(types: &[BidiClass]) -> bool
     all
 }
 
-// Returns whether only W3 changes a type. Compares numbers instead of using `match`, to keep the loop of
-// `are_simple` free of branches.
+// Returns whether no rule but W3 can change a type. Compares numbers instead of using `match`, to keep the
+// loop of `are_simple` free of branches.
 fn is_simple(class: BidiClass) -> bool
     ensures { result ≡ is_simple class }
 {
     ((class as u8) < BidiClass::EN as u8) | (class as u8 > BidiClass::NSM as u8)
 }
 
-// Returns the start of the row of the state after a type that only W3 changes.
+// Returns the index at which the row for the next state starts, after a type that no rule but W3 can change.
 fn strong_row(row: usize, class: BidiClass) -> usize
     requires bounded { row < RUN_LEN }
     requires starts { row % 32 ≡ 0 }
@@ -180,7 +180,8 @@ fn act(types: &mut [BidiClass], start: usize, at: usize, done: u16, value: BidiC
     at
 }
 
-// Applies W1: NSM gets the type of the character before it. `before` is the last type that was not NSM.
+// Applies W1: NSM gets the type of the character before it. `before` is the last type that was not NSM, and
+// is updated.
 pub(crate) fn mark_type(before: &mut BidiClass, class: BidiClass) -> BidiClass
     ensures marked { result ≡ mark_type before.old class }
     ensures before { before.new ≡ (if not (is_mark class) then class else before.old) }
@@ -200,8 +201,8 @@ pub(crate) fn is_left(class: BidiClass) -> bool
     matches!(class, BidiClass::L)
 }
 
-// Returns the type of a mark that follows a type. Marks are rare, so a separate function keeps their code out
-// of the loop.
+// Returns the type of a mark after a given type (W1). Marks are rare, so a separate function keeps their code
+// out of the loop.
 #[cold]
 #[inline(never)]
 fn mark_after(before: BidiClass) -> BidiClass

@@ -1,5 +1,5 @@
-//! The types of one isolating run sequence after each weak rule (UAX #9, W1 to W7), for callers that
-//! show how the algorithm arrives at a level. `weak` has the fast pass for all rules.
+//! The types of one isolating run sequence after each weak rule (UAX #9, W1 to W7), for callers that show how
+//! the algorithm arrives at a level. The fast pass for all rules is in `weak`.
 ghost use Rattle.std.specs.Prelude.{◌≡◌, ◌∷◌, ◌&&◌, ◌||◌, [], not, if◌then◌else◌, IfOk};
 ghost use Rattle.ucd.specs.declared.bidi_class.BidiClass.TheVariants.{EN, ET, L, ON};
 ghost use Rattle.bidi.specs.Neighbours.{nearest};
@@ -54,7 +54,7 @@ fn separator_type(before: BidiClass, class: BidiClass, after: &[BidiClass]) -> B
     }
 }
 
-// Returns the nearest type that is not ET, or ON if there is none.
+// Returns the first type that is not ET, or ON if there is none.
 fn nearest_other(types: &[BidiClass]) -> BidiClass
     ensures { result ≡ nearest (λ type. not (is_terminator type)) ON types.now }
 {

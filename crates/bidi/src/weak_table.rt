@@ -1,6 +1,7 @@
-//! The tables of the pass for the weak rules (UAX #9, W1 to W7). Each table has a row of 32 entries for each
-//! state, with one entry for each bidi class. The state is what the rules need to know about the types before
-//! an index: the last strong type, and which run ends at the index. Each entry is proved correct.
+//! The tables for the pass that applies the weak rules (UAX #9, W1 to W7). Each table has a row of 32 entries
+//! for each state, with one entry for each bidi class. The state is what the rules need to know about the
+//! types before an index: the last strong type, and which run ends at the index. Each entry is proved
+//! correct.
 ghost use Rattle.std.specs.Prelude.{◌≡◌, ◌+◌, ◌≤◌, slice_index, slice_index_or};
 ghost use Rattle.ucd.specs.Answers.{bidi_tag};
 ghost use Rattle.ucd.specs.declared.bidi_class.BidiClass.TheVariants.{ON};
@@ -36,8 +37,8 @@ pub const BEGINS: u16 = 1;
 /// The type turns the pending types into numbers (W4 and W5).
 pub const COMPLETES: u16 = 2;
 
-/// The divisor of an entry of `NEXT`. The quotient is the index at which the next state's row starts, and the
-/// remainder is what the type does to pending types.
+/// The number by which an entry of `NEXT` is divided to decode it. The quotient is the index at which the
+/// next state's row starts, and the remainder is what the type does to pending types.
 pub const PARTS: u16 = 4;
 
 /// The number of states: one for each run and each of the strong types L, R and AL.
@@ -136,7 +137,7 @@ pub static NEXT: [u16; STATE_COUNT * ROW_LEN] = next_rows! {
     Terminators AL: Arabic K Nothing K Terminators K Arabic K Nothing K;
 };
 
-/// For each state and class: the type to write, which is ON for a pending type.
+/// For each state and class: the type to write, or ON if the type is pending.
 pub static VALUES: [BidiClass; STATE_COUNT * ROW_LEN] = value_rows! {
     Nothing L: L ON;
     Nothing R: EN ON;
@@ -161,7 +162,7 @@ pub static VALUES: [BidiClass; STATE_COUNT * ROW_LEN] = value_rows! {
     Terminators AL: AN ON;
 };
 
-/// Returns the entry of `NEXT` for a class.
+/// Returns the entry of `NEXT` for a class in the row that starts at `row`.
 pub fn next(row: usize, class: BidiClass) -> u16
     requires { row ≤ LAST_ROW }
     ensures { result ≡ slice_index NEXT (row + bidi_tag class) }
@@ -169,7 +170,7 @@ pub fn next(row: usize, class: BidiClass) -> u16
     NEXT[row + class as usize]
 }
 
-/// Returns the entry of `VALUES` for a class.
+/// Returns the entry of `VALUES` for a class in the row that starts at `row`.
 pub fn value(row: usize, class: BidiClass) -> BidiClass
     requires { row ≤ LAST_ROW }
     ensures { result ≡ slice_index_or VALUES (row + bidi_tag class) ON }

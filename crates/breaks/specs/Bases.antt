@@ -1,5 +1,5 @@
--- The bases of a paragraph, each of which is a character with the combining marks that join it (UAX #14, LB1,
--- LB9 and LB10).
+-- The bases of a paragraph, each of which is a character with the combining marks and ZWJs that join it (UAX
+-- #14, LB1, LB9 and LB10).
 use Rattle.std.specs.Prelude.{ℕ, Bool, true, false, not, ◌&&◌, List, [], ◌∷◌, if◌then◌else◌}
 use Rattle.ucd.specs.Tables.{line_class_of, line_detail_of, is_wide_in, is_mark_in, is_future_pictograph_in}
 use Rattle.ucd.specs.declared.line_class.LineClass.{LineClass}
@@ -22,7 +22,8 @@ resolved SA false = AL
 resolved CJ is_mark = NS
 resolved class is_mark = class
 
--- The class itself if it exists in the version, or else XX. Tables of Unicode 15.0 never contain other classes.
+-- The class itself if it exists in the version, or else XX. Tables of Unicode 15.0 contain no class that
+-- becomes XX here.
 abbrev pub known : Version → LineClass → LineClass
 known V17_0 class = class
 known V15_0 AK = XX

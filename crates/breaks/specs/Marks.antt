@@ -14,7 +14,7 @@ marks_after rules before (b ∷ after) =
     map (λ _. Never) b.attached
     ++ mark_by rules (b ∷ before) after ∷ marks_after rules (b ∷ before) after
 
--- The mark after each character of a paragraph. LB25 is applied to whole numbers if `whole_numbers` is true,
--- and otherwise to pairs of bases.
+-- The mark after each character of a paragraph. In 15.0, LB25 is applied to whole numbers if `whole_numbers`
+-- is true, and otherwise to pairs of bases.
 unfoldable pub marks_of : Tables → Bool → List ℕ → List Mark
 marks_of t whole_numbers text = marks_after (rules t.version whole_numbers) [] (bases_of (map (character t) text))

@@ -34,8 +34,9 @@ abbrev pub is_nothing : List LineClass → Bool
 is_nothing [] = true
 is_nothing (class ∷ rest) = false
 
--- Whether a list of classes matches a suffix of the expression, from the shortest suffix to the longest. No
--- optional or repeated part shares a class with a part that can follow it, so each part can match greedily.
+-- Whether a list of classes matches a suffix of the expression. Each definition adds a part to the suffix of
+-- the one before it. No optional or repeated part shares a class with a part that can follow it, so each part
+-- can match greedily.
 abbrev pub is_end : List LineClass → Bool
 is_end classes = is_nothing (after_one affix classes)
 
@@ -58,8 +59,8 @@ abbrev pub fronts : {A : Type 0} → List A → List (List A)
 fronts [] = []
 fronts (a ∷ rest) = (a ∷ []) ∷ map (λ front. a ∷ front) (fronts rest)
 
--- whether one or more bases directly before a position, nearest first, and one or more directly after it form
--- a number
+-- whether a position is inside a number: one or more bases directly before it (`before`, nearest first) and
+-- one or more directly after it form a number
 abbrev pub is_in_number : List Base → List Base → Bool
 is_in_number before after =
     list_any (λ front. list_any (λ back. is_number (map class_of (reverse front ++ back))) (fronts after)) (fronts before)

@@ -1,4 +1,4 @@
--- The rule that decides each break mark, and what this rule read.
+-- The rule that decides each break mark, and the bases around the mark.
 use Rattle.std.specs.Prelude.{ℕ, ◌+◌, Bool, true, false, List, [], ◌∷◌, ◌++◌, length, map, slice_get, option_map, unwrap_or, Option, Some, None, if◌then◌else◌}
 use Rattle.ucd.specs.declared.line_class.LineClass.{LineClass}
 use Rattle.ucd.specs.declared.line_class.LineClass.TheVariants.{ZWJ}
@@ -72,7 +72,7 @@ names v whole_numbers =
 
 -- ---- The reasons
 
--- the name of the first rule that applies, if one does
+-- the name of the first rule that applies, or `None` if none does
 abbrev pub first_by : List LineRule → List Rule → List Base → List Base → Option LineRule
 first_by [] rules before after = None
 first_by (name ∷ names) [] before after = None
@@ -106,8 +106,8 @@ reason_at names rules b before after = record {
   mark = mark_by rules (b ∷ before) after;
 }
 
--- the reasons for the marks inside a base that starts at `start`: after the character c, and after each
--- character attached to the base after c, except the last
+-- the reasons for the marks inside a base that starts at `start`: after its character c, and after the
+-- following characters of the base, except the last
 abbrev pub reasons_inside : ℕ → LineClass → Option ℕ → Character → List Character → List Reason
 reasons_inside start class behind c [] = []
 reasons_inside start class behind c (d ∷ attached) =

@@ -72,7 +72,7 @@ abbrev pub is_pair : List LineClass → List LineClass → List Base → Bool
 is_pair firsts classes (b ∷ a ∷ bases) = is_one_of firsts (class_of a) && is_one_of classes (class_of b)
 is_pair firsts classes bases = false
 
--- the bases without the spaces nearest to the position
+-- the bases without the spaces that directly adjoin the position
 abbrev pub without_spaces : List Base → List Base
 without_spaces [] = []
 without_spaces (b ∷ bases) = if is_same (class_of b) SP then without_spaces bases else b ∷ bases
@@ -82,7 +82,8 @@ without_spaces (b ∷ bases) = if is_same (class_of b) SP then without_spaces ba
 abbrev pub is_spaced : List LineClass → List Base → Bool
 is_spaced classes bases = is classes (without_spaces bases)
 
--- whether the bases without the nearest spaces meet the condition; UAX #14 writes these spaces as `SP*`
+-- whether the bases without the spaces that adjoin the position meet the condition; UAX #14 writes these
+-- spaces as `SP*`
 abbrev pub spaced : (List Base → Bool) → List Base → Bool
 spaced condition bases = condition (without_spaces bases)
 
@@ -96,7 +97,7 @@ abbrev pub or_edge : (List Base → Bool) → List Base → Bool
 or_edge condition [] = true
 or_edge condition (b ∷ bases) = condition (b ∷ bases)
 
--- whether there is a nearest base that is not wide (East Asian width F, W or H)
+-- whether there is a nearest base, and it is not wide (East Asian width F, W or H)
 abbrev pub is_not_east_asian : List Base → Bool
 is_not_east_asian [] = false
 is_not_east_asian (b ∷ bases) = not (is_east_asian b)
@@ -106,7 +107,7 @@ abbrev pub is_quote : LineDetail → List Base → Bool
 is_quote detail [] = false
 is_quote detail (b ∷ bases) = is_same (class_of b) QU && is_detail b.first.detail detail
 
--- whether the nearest base is QU with another detail
+-- whether the nearest base is QU with a detail other than this one
 abbrev pub is_quote_but : LineDetail → List Base → Bool
 is_quote_but detail [] = false
 is_quote_but detail (b ∷ bases) = is_same (class_of b) QU && not (is_detail b.first.detail detail)

@@ -1,4 +1,4 @@
--- Maps the characters and bases of the code to those of the rules.
+-- Maps the code's characters and bases to those of Bases.antt.
 use Rattle.std.specs.Prelude.{ℕ, suc, List, [], ◌∷◌, map, if◌then◌else◌}
 use Rattle.breaks.specs.Bases.{Base, Character, stays_with}
 use Rattle.breaks.specs.declared.bases.Base.{Base as Found}
@@ -10,12 +10,12 @@ character_in c = record { class = c.class; detail = c.detail; is_wide = c.is_wid
 abbrev pub base_in : Found → Base
 base_in b = record { first = character_in b.first; attached = map character_in b.attached.now }
 
--- how many of the characters after a character join it, directly or through others
+-- how many of the characters after a character belong to the same base
 abbrev pub attached_len : Character → List Character → ℕ
 attached_len c [] = 0
 attached_len c (d ∷ text) = if stays_with c d then suc (attached_len d text) else 0
 
--- the bases after the nearest one
+-- all bases except the nearest one
 abbrev pub rest : List Base → List Base
 rest [] = []
 rest (b ∷ bases) = bases

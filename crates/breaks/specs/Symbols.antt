@@ -22,8 +22,8 @@ character_in v a = record {
 abbrev pub character_by : Version → Properties → Character
 character_by v p = character_in v (line_answers p)
 
--- The part of a character that the rules of 15.0 read. LB30 needs the width only for parentheses, and LB30b
--- needs the pictograph property only of the base before a position.
+-- The part of a character that the rules of 15.0 read. LB30 needs the width only for parentheses. LB30b needs
+-- the pictograph property only of the base before a position, for which the walk records it.
 abbrev pub told : Character → Character
 told c = record {
   class = c.class;

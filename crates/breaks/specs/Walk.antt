@@ -21,7 +21,7 @@ use Rattle.breaks.specs.declared.symbol.TheConstants.{SYMBOL_COUNT}
 abbrev pub base : LineClass → Base
 base class = alone (narrow class)
 
--- the example bases of states that both versions have, which are the last states of 15.0
+-- the example bases of the states that both versions have; in 15.0, these states come last
 abbrev pub last_states : List (List Base)
 last_states =
     (base class.NU ∷ []) ∷
@@ -86,8 +86,7 @@ decided_at outcome is_joined is_pictograph = if is_joined || ((outcome == UNLESS
 abbrev pub is_ordinary : Properties → Bool
 is_ordinary p = not (is_same (character_by V15_0 p).class class.ZWJ) && not p.is_future_pictograph
 
--- the state in this row of the walk over ordinary characters, converted to a state of the walk over any
--- characters
+-- for this row of the walk over ordinary characters, the corresponding state of the walk over any characters
 abbrev pub full_walk : ℕ → Walk15
 full_walk row = record { row = row; is_joined = false; is_pictograph = false }
 
@@ -148,7 +147,8 @@ plain (b ∷ bases) = record { first = record b.first { is_future_pictograph = f
 abbrev pub answers : Bool → List Base → List Bool
 answers whole_numbers bases = map (λ row. row.before (plain bases)) (rows whole_numbers)
 
--- the results that a rule may need after one more base: hyphens after HL, spaces, RI and numbers
+-- the results of conditions that rules may need after one more base: for hyphens after HL, and for runs of
+-- spaces, RI and numbers
 abbrev pub carried : List Base → List Bool
 carried bases =
     is (class.HL ∷ []) bases

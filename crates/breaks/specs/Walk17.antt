@@ -1,6 +1,6 @@
 -- The state of the walk over the characters with the rules of Unicode 17.0, similar to that in Walk.antt for
--- 15.0. In addition, the walk records whether the last two bases are wide (LB19a). The outcome of an entry is
--- a mark or a question about the bases after the next one.
+-- 15.0. In addition, the walk records whether the last two bases are wide (LB19a). The outcome of a step is a
+-- mark or a question about the bases after the next one.
 use Rattle.std.specs.Prelude.{◌≡◌, ℕ, Option, None, Some, ◌*◌, ◌<◌, ◌==◌, Bool, false, not, ◌||◌, ◌&&◌, ◌++◌, List, [], ◌∷◌, map, get_or, set, if◌then◌else◌}
 use Rattle.ucd.specs.declared.line_class.LineClass.TheVariants as class
 use Rattle.ucd.specs.declared.line_detail.LineDetail.TheVariants.{Final, Initial}
@@ -61,8 +61,8 @@ states_17 =
 abbrev pub bases_at_17 : ℕ → List Base
 bases_at_17 number = get_or states_17 number []
 
--- what a walk records about the last bases besides its state: whether the last character is a ZWJ, whether the last
--- base is a future pictograph, and whether the last base and the base before it are wide
+-- the bits of a walk: whether the last character is a ZWJ, whether the last base is a future pictograph, and
+-- which of the last two bases are wide
 pub record Bits : Type 0 where
   pub is_joined : Bool
   pub is_pictograph : Bool
@@ -150,7 +150,7 @@ answered_17 bits answers =
     LB19a_last_row (get_or answers LB19a_last_row false && not bits.was_wide))
     LB30b_row bits.is_pictograph
 
--- the results that a rule may need after one more base
+-- the results of conditions that rules may need after one more base
 abbrev pub carried_17 : List Base → List Bool
 carried_17 bases =
     is (class.HL ∷ []) bases
@@ -169,8 +169,7 @@ is_narrow_17 p = not (is_same (character_by V17_0 p).class class.ZWJ) && (not p.
 abbrev pub narrow_bits : Bits
 narrow_bits = record { is_joined = false; is_pictograph = false; is_wide = false; was_wide = false }
 
--- the state in this row of the walk over narrow characters, converted to a state of the walk over any
--- characters
+-- for this row of the walk over narrow characters, the corresponding state of the walk over any characters
 abbrev pub narrow_walk : ℕ → Walk17
 narrow_walk row = record { row = row; is_joined = false; is_pictograph = false; is_wide = false; was_wide = false }
 
@@ -195,7 +194,7 @@ abbrev pub ordinary_bits : Properties → Option Properties → Bits
 ordinary_bits last before =
     record { is_joined = false; is_pictograph = false; is_wide = begins_wide last; was_wide = begins_wide_if_any before }
 
--- a state of the walk over ordinary characters, converted to a state of the walk over any characters
+-- for a state of the walk over ordinary characters, the corresponding state of the walk over any characters
 abbrev pub full_walk : OrdinaryWalk17 → Walk17
 full_walk walk = record { row = walk.row; is_joined = false; is_pictograph = false; is_wide = begins_wide walk.last; was_wide = begins_wide_if_any walk.before }
 

@@ -82,7 +82,7 @@ fn known_detail(version: Version, detail: LineDetail) -> LineDetail
     }
 }
 
-// Looks up a character.
+// Looks up what the rules need to know about a character.
 fn look_up(tables: &Tables, c: char) -> Character
     ensures { character_in result ≡ character tables.now c }
 {
@@ -99,7 +99,7 @@ fn look_up(tables: &Tables, c: char) -> Character
     }
 }
 
-/// Looks up the characters of a paragraph.
+/// Looks up what the rules need to know about the characters of a paragraph.
 pub fn characters(
     alloc: Global,
     tables: &Tables,
@@ -132,7 +132,7 @@ fn stays_with(before: Character, c: Character) -> bool
         )
 }
 
-// Returns how many of the characters after a character join it, directly or through others.
+// Returns how many of the characters after a character belong to the same base.
 fn attached_len(first: Character, rest: &[Character]) -> usize
     ensures len { result ≡ attached_len (character_in first) (map character_in rest.now) }
     ensures within { result ≤ length rest.now }

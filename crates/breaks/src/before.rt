@@ -17,14 +17,14 @@ use ucd::LineClass;
 #[derive(Drop)]
 pub struct Before<'b, 'a> {
     pub bases: &'b [Base<'a>],
-    // How many of the nearest bases are spaces.
+    // How many spaces directly precede the position.
     spaces: usize,
-    // Where the base before these spaces starts.
+    // Where the base before these spaces starts, or `None` if there is none.
     behind_spaces: Option<usize>,
     is_odd_run: bool,
     ends_in_number: bool,
     ends_in_digits: bool,
-    // The same as the two fields above, for the bases without the nearest one.
+    // The values of the two fields above for all bases except the nearest one.
     rest_ends_in_number: bool,
     rest_ends_in_digits: bool,
 }
@@ -52,7 +52,7 @@ impl<'b, 'a> Model for Before<'b, 'a> {
 }
 
 impl<'b, 'a> Before<'b, 'a> {
-    /// Returns the value for the start of a text, where no bases precede. `bases` must be empty.
+    /// Returns the value for the start of a text, which no bases precede. `bases` must be empty.
     pub fn none(bases: &'b [Base<'a>]) -> Before<'b, 'a>
         requires { length bases.now ≡ 0 }
         ensures { result ≡ [] }
@@ -69,8 +69,8 @@ impl<'b, 'a> Before<'b, 'a> {
         }
     }
 
-    /// Returns the bases before the next position: these bases and, nearest to the position, `base`, which
-    /// starts at `start`.
+    /// Returns the value for the position after `base`, which starts at `start`. `bases` must hold `base` and
+    /// then the bases of `self`.
     pub fn next(&self, base: &Base<'a>, bases: &'b [Base<'a>], start: usize) -> Before<'b, 'a>
         requires bases { map base_in bases.now ≡ base_in base.now ∷ self.now }
         requires start { start ≡ chars_in self.now }
@@ -97,14 +97,14 @@ impl<'b, 'a> Before<'b, 'a> {
         }
     }
 
-    /// Returns where the nearest base that is not a space starts.
+    /// Returns where the nearest base that is not a space starts, or `None` if there is none.
     pub fn behind_spaces(&self) -> Option<usize>
         ensures { result ≡ start_of (rules.without_spaces self.now) }
     {
         self.behind_spaces
     }
 
-    /// Returns the bases without the spaces nearest to the position.
+    /// Returns the bases before the spaces that directly precede the position, or all bases if none do.
     pub fn without_spaces(&self) -> &'b [Base<'a>]
         ensures { map base_in result.now ≡ rules.without_spaces self.now }
     {
@@ -125,21 +125,21 @@ impl<'b, 'a> Before<'b, 'a> {
         self.is_odd_run
     }
 
-    /// LB25 of 17.0: returns whether the bases end in a number.
+    /// LB25 of 17.0: returns whether the bases end in a number, `NU ( SY | IS )*`.
     pub fn ends_in_number(&self) -> bool
         ensures { result ≡ rules.ends_in_number self.now }
     {
         self.ends_in_number
     }
 
-    /// LB25 of 17.0: returns whether the nearest base is CL or CP after a number.
+    /// LB25 of 17.0: returns whether the nearest base is a CL or CP that follows a number.
     pub fn ends_in_closed_number(&self) -> bool
         ensures { result ≡ rules.followed (rules.is (CL ∷ CP ∷ [])) rules.ends_in_number self.now }
     {
         is(&[LineClass::CL, LineClass::CP], self.bases) && self.rest_ends_in_number
     }
 
-    // Returns whether the nearest base is CL or CP after a number.
+    // LB25 of 15.0: returns whether the nearest base is a CL or CP that follows `NU ( NU | SY | IS )*`.
     fn ends_in_closed_digits(&self) -> bool
         ensures { result ≡ ends_in_closed_digits self.now }
     {

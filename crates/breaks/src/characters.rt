@@ -1,5 +1,5 @@
-//! The characters of a paragraph as input. Their properties are already known, or are looked up whenever a
-//! character is read.
+//! The characters of a paragraph, as the walk reads them. Their properties are already known, or are looked
+//! up whenever a character is read.
 ghost use Rattle.std.specs.Prelude.{◌≡◌, ◌<◌, ◌∷◌, List, MatchOption, length, map, slice_index_or};
 ghost use Rattle.ucd.specs.Properties.{properties_of};
 ghost use Rattle.ucd.specs.declared.properties.Properties.{Properties};
@@ -7,12 +7,13 @@ ghost use Rattle.ucd.specs.declared.properties.Properties.{Properties};
 use ucd::{Properties, Tables};
 
 pub trait Characters: Copy {
-    /// Whether it is cheap to read a character again.
+    /// Whether the properties are known, so that it is cheap to read a character again.
     const ARE_KNOWN: bool;
 
     ghost all: { Self → List Properties };
 
-    /// Returns the properties of the first character, and the characters after it.
+    /// Returns the properties of the first character, and the characters after it, or `None` if there are
+    /// none.
     fn split_first(&self) -> Option<(Properties, Self)>
         ensures cases { MatchOption result (length (all self.now) ≡ 0)
             (λ p. all self.now ≡ p.0 ∷ all p.1) };

@@ -1,5 +1,5 @@
-//! The conditions of the rules, on the bases before or after a position, the nearest first. Most functions
-//! implement the definitions of the same name in specs/Rules.antt.
+//! The rules' conditions on the bases before a position or after it. The nearest base comes first. Most
+//! functions implement the definitions of the same name in specs/Rules.antt.
 ghost use Rattle.std.specs.Prelude.{◌≡◌, ◌∷◌, [], map};
 ghost use Rattle.breaks.specs.Rules as rules;
 ghost use Rattle.ucd.specs.declared.line_detail.LineDetail.TheVariants.{Final};
@@ -37,7 +37,7 @@ pub fn is_not(classes: &[LineClass], bases: &[Base<'_>]) -> bool
     }
 }
 
-/// Returns the bases after the nearest one.
+/// Returns all bases except the nearest one.
 pub fn rest<'b, 'a>(bases: &'b [Base<'a>]) -> &'b [Base<'a>]
     ensures { map base_in result.now ≡ rest (map base_in bases.now) }
 {
@@ -104,8 +104,8 @@ pub fn is_future_pictograph(bases: &[Base<'_>]) -> bool
     }
 }
 
-/// LB15a: returns whether the nearest base is an initial quotation mark, at the start of the text or after
-/// one of the classes that the rule lists.
+/// LB15a: returns whether the nearest base is a QU of category Pi, at the start of the text or after a base
+/// of a class that the rule lists.
 pub fn begins_quotation(bases: &[Base<'_>]) -> bool
     ensures { result ≡ rules.begins_quotation (map base_in bases.now) }
 {
@@ -127,8 +127,8 @@ pub fn begins_quotation(bases: &[Base<'_>]) -> bool
             ))
 }
 
-/// LB15b: returns whether the nearest base is a final quotation mark, at the end of the text or before one of
-/// the classes that the rule lists.
+/// LB15b: returns whether the nearest base is a QU of category Pf, at the end of the text or before a base of
+/// a class that the rule lists.
 pub fn ends_quotation(bases: &[Base<'_>]) -> bool
     ensures { result ≡ rules.followed (rules.is_quote Final) (rules.or_edge (rules.is rules.after_final))
         (map base_in bases.now) }
@@ -156,8 +156,7 @@ pub fn ends_quotation(bases: &[Base<'_>]) -> bool
             ))
 }
 
-/// LB19a: returns whether there are no bases, or the nearest one has an East Asian width other than F, W or
-/// H.
+/// LB19a: returns whether there are no bases, or the nearest one is not wide (East Asian width F, W or H).
 pub fn is_edge_or_not_east_asian(bases: &[Base<'_>]) -> bool
     ensures { result ≡ rules.or_edge rules.is_not_east_asian (map base_in bases.now) }
 {

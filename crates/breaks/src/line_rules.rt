@@ -1,5 +1,6 @@
-//! The first rule that applies at a position between bases, the nearest first on either side. Each function
-//! tries the rows of specs/Rules.antt that its contract names.
+//! Finds the first rule that applies at a position, given the bases before and after it, the nearest first.
+//! Most functions try the rows of specs/Rules.antt that their contracts name, and return `None` if none
+//! applies.
 ghost use Rattle.std.specs.Prelude.{◌≡◌, ◌++◌, false, map, unwrap_or, Bool};
 ghost use Rattle.ucd.specs.declared.version.Version.TheVariants.{V15_0, V17_0};
 ghost use Rattle.breaks.specs.Reasons.{first_row, names_LB12a_to_LB14, names_LB15, names_LB16_to_LB18};
@@ -488,7 +489,7 @@ fn before_numbers_17(before: &Before<'_, '_>, after: &[Base<'_>]) -> Option<Line
         .or(lb21b_to_lb24(before, after))
 }
 
-// Tries LB25 of 15.0.
+// Tries LB25 of 15.0, for whole numbers or for pairs of bases.
 fn numbers(whole_numbers: bool, before: &Before<'_, '_>, after: &[Base<'_>]) -> Option<LineRule>
     ensures { result ≡ first_by (names_of_numbers V15_0 whole_numbers) (rows.numbers V15_0 whole_numbers)
         before.now (map base_in after.now) }

@@ -97,7 +97,7 @@ fn mark_all<C: Characters>(
 }
 
 // Does the same as `mark_all` with the rules of one version. Uses the walk `O`, which is faster than `W`, if
-// `O` can pass all characters.
+// all properties are known and `O` can pass all characters.
 fn mark_by<R: Rules, O: Walk<R>, W: Walk<R>, C: Characters>(
     characters: C,
     rules: R,

@@ -14,7 +14,7 @@ use crate::table_17::{
 use crate::walk_17::{Rules17, is_wide};
 use ucd::Properties;
 
-/// The state of the walk. `Walk17` is the state for all characters.
+/// The state of the walk over ordinary characters. `Walk17` is that of the walk over any characters.
 #[derive(Clone, Copy)]
 pub struct OrdinaryWalk17 {
     // The start of the state's row in the table.

@@ -20,15 +20,15 @@ use ucd::{LineClass, Tables, Version};
 pub struct Reason {
     /// The first rule that applies, which decides the mark.
     pub rule: LineRule,
-    /// Where the base before the position starts.
+    /// Where the base that contains the character starts.
     pub base: usize,
-    /// Where the nearest base before the position that is not a space starts. UAX #14 writes such a base
-    /// as a class followed by `SP*`.
+    /// Where the last base that is not a space starts, this base included, or `None` if there is none. UAX
+    /// #14 writes such a base as a class followed by `SP*`.
     pub behind_spaces: Option<usize>,
-    /// The class of the base before the position, after LB1 and LB10.
+    /// The class of the base that contains the character, after LB1 and LB10.
     pub class_before: LineClass,
     /// The class after the position: the class of the next base or, inside a base, of the next character.
-    /// `None` at the end.
+    /// `None` at the end of the paragraph.
     pub class_after: Option<LineClass>,
     /// The mark.
     pub mark: Mark,
@@ -41,7 +41,7 @@ struct Edition {
     whole_numbers: bool,
 }
 
-// Returns the class of the nearest base.
+// Returns the class of the nearest base, or `None` if there are no bases.
 fn next_class(bases: &[Base<'_>]) -> Option<LineClass>
     ensures { result ≡ next_class (map base_in bases.now) }
 {
@@ -144,9 +144,9 @@ fn reasons_by<'a>(
     Ok(list)
 }
 
-/// Returns the rule that decides the break mark after each character of a paragraph, and what that rule read.
-/// The marks are those of `marks`, by the rules of the tables' Unicode version. Needs time proportional to
-/// the length of the paragraph.
+/// Returns the reason for the break mark after each character of a paragraph: the rule that decides it, and
+/// the bases around it. The marks are those that `marks` returns. Needs time proportional to the length of
+/// the paragraph.
 pub fn reasons(
     alloc: Global,
     tables: &Tables,

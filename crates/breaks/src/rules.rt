@@ -1,4 +1,5 @@
-//! The rules of a Unicode version, as the walk over the characters of a paragraph uses them.
+//! Traits for the rules of a Unicode version, and for the walk over a paragraph's characters that applies
+//! them.
 ghost use Rattle.std.specs.Prelude.{◌≡◌, ◌<◌, ℕ, Bool, true, List, [], ◌∷◌, MatchOption};
 ghost use Rattle.ucd.specs.declared.properties.Properties.{Properties};
 ghost use Rattle.ucd.specs.declared.version.Version.{Version};
@@ -16,7 +17,7 @@ use ucd::Properties;
 pub trait Rules: Copy {
     ghost version: { Version };
 
-    // Whether another rule replaces LB25 of Unicode 15.0.
+    // Whether a rule for whole numbers replaces LB25 of Unicode 15.0.
     ghost whole_numbers: { Self → Bool };
 
     // The number of outcomes.
@@ -52,8 +53,8 @@ pub trait Rules: Copy {
 
 /// The state of the walk: what the rules need to know about the bases before a position.
 pub trait Walk<R: Rules>: Copy {
-    // Whether the state belongs to the bases before a position, which are the last base and the others, with
-    // the nearest first.
+    // Whether the state belongs to a position, given the last base before it and the other bases, the nearest
+    // first.
     ghost stands: { R → Self → Base → List Base → Type 0 };
 
     // Whether the state has a row in the table.

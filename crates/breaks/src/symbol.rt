@@ -64,7 +64,8 @@ pub const JOINER: u8 = Symbol::ZWJ as u8;
 /// The symbol number of NU.
 pub const DIGIT: u8 = Symbol::NU as u8;
 
-/// The first of the symbol numbers of CM and ZWJ, which join the character before them.
+/// The lower of the symbol numbers of CM and ZWJ, the last two symbols. They join the character before them
+/// (LB9).
 pub const ATTACHED: u8 = Symbol::CM as u8;
 
 /// Returns the symbol number of a character with these properties.

@@ -75,7 +75,8 @@ pub const SYMBOL_COUNT: usize = Symbol::ZWJ as usize + 1;
 /// The symbol number of ZWJ.
 pub const JOINER: u8 = Symbol::ZWJ as u8;
 
-/// The first of the symbol numbers of CM and ZWJ, which join the character before them.
+/// The lower of the symbol numbers of CM and ZWJ, the last two symbols. They join the character before them
+/// (LB9).
 pub const ATTACHED: u8 = Symbol::CM as u8;
 
 /// Returns the symbol number of a character with these properties.
@@ -93,9 +94,9 @@ fn symbol_at(index: usize) -> u8
     SYMBOLS[index]
 }
 
-// The four symbols of each line-breaking number: for a narrow character, a narrow mark, a wide character and
-// a wide mark. Each symbol occurs twice, because a future pictograph has the same symbol as other characters
-// of its class.
+// The four symbols for each class, with or without a detail: those of a narrow character, a narrow mark, a
+// wide character and a wide mark. Each symbol occurs twice, because a future pictograph has the same symbol
+// as other characters of its class.
 macro_rules! symbols {
     ($($narrow:ident $narrow_mark:ident $wide:ident $wide_mark:ident;)*) => {
         [$(

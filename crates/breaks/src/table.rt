@@ -94,7 +94,7 @@ pub const MUST: u8 = 4;
 /// LB25 for two bases: no line ends between them, but with whole numbers a line may end there.
 pub const PAIR: u8 = 5;
 
-/// A position inside a number that LB25 for two bases does not cover: a line may end there, but not with
+/// Inside a number, at a position that LB25 for two bases does not cover: a line may end there, but not with
 /// whole numbers.
 pub const INSIDE: u8 = 6;
 
@@ -114,7 +114,7 @@ pub const LAST_ROW: usize = ENTRY_COUNT - SYMBOL_COUNT;
 /// The number of entries in a row, in the type of the entries of `NEXT_ROWS`.
 pub const ROW: u32 = SYMBOL_COUNT as u32;
 
-/// The start of the row used at the start of a text, where a line begins, as after BK.
+/// The start of the row that is used at the start of a text: the row of BK, after which a line begins too.
 pub const START: usize = 0;
 
 /// Returns the start of the next row. The slice does not depend on the row, so each step of the walk waits

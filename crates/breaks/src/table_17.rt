@@ -23,7 +23,7 @@ pub enum State {
     SpaceAfterZW,
     /// Spaces after OP.
     SpaceAfterOP,
-    /// Spaces after a quotation mark of LB15a.
+    /// Spaces after a quotation mark to which LB15a applies.
     SpaceAfterInitial,
     /// Spaces after CL or CP.
     SpaceAfterCL,
@@ -38,7 +38,7 @@ pub enum State {
     IS,
     SY,
     OP,
-    /// QU, or a QU of category Pi that LB15a does not name.
+    /// A QU of neither category Pi nor Pf, or a QU of category Pi to which LB15a does not apply.
     QU,
     /// LB15a: a QU of category Pi after one of the bases that the rule names.
     InitialQU,
@@ -166,7 +166,7 @@ pub const LAST_ROW: usize = ENTRY_COUNT - SYMBOL_COUNT;
 /// The number of entries in a row, in the type of the entries of `NEXT_ROWS`.
 pub const ROW: u32 = SYMBOL_COUNT as u32;
 
-/// The start of the row used at the start of a text, where a line begins, as after BK.
+/// The start of the row that is used at the start of a text: the row of BK, after which a line begins too.
 pub const START: usize = 0;
 
 /// Returns the start of the next row.

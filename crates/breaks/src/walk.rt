@@ -129,7 +129,7 @@ impl Walk<Rules15> for OrdinaryWalk15 {
     }
 }
 
-// Returns whether the last base is a future pictograph after the next character has been read. An attached
+// Returns whether, once the next character has been read, the last base is a future pictograph. An attached
 // character does not change that.
 fn is_now_pictograph(outcome: u8, before: bool, next: bool) -> bool
     ensures { result ≡ (if outcome == STAYS then before else next) }
@@ -163,8 +163,8 @@ static MARKS: [Mark; 8] = [
     Mark::Never,
 ];
 
-// The mark for each outcome, with whole numbers. For the last one, `WAITS`, this is the mark if the next base
-// is not NU.
+// The mark for each outcome, with whole numbers. For the last one, `WAITS`, this is the mark if the base
+// after the next one is not NU.
 static WHOLE_MARKS: [Mark; 8] = [
     Mark::Never,
     Mark::Never,

@@ -113,8 +113,8 @@ impl Walk<Rules17> for Walk17 {
 }
 
 impl Walk17 {
-    // Returns the mark or question that results from an outcome: `NEVER` if the last character is a ZWJ
-    // (LB8a).
+    // Returns the mark or question that results from an outcome, given whether the next base is wide. After a
+    // ZWJ, this is `NEVER` (LB8a).
     fn decide(&self, outcome: u8, next_is_wide: bool) -> u8
         requires { outcome < OUTCOME_COUNT }
         ensures decided { result ≡ decided_17 outcome (bits_in self.now) next_is_wide }
@@ -179,7 +179,7 @@ fn decided_narrow(outcome: u8) -> u8
     NARROW[outcome as usize]
 }
 
-// What each outcome means if all bits of the walk are false.
+// The mark or question for each outcome if all bits of the walk are false.
 static NARROW: [u8; 15] = [
     NEVER, NEVER, MAY, MUST, LB15B, LB15C, LB19A, LB25, LB25_IS, LB28A, MAY, NEVER, NEVER, NEVER,
     NEVER,

@@ -73,14 +73,15 @@ print_rules =
     codes "nopad" ∷ codes "nomirror" ∷ codes "novisual" ∷ codes "basedir" ∷ codes "ltov" ∷ codes "vtol" ∷ codes "levels" ∷ []
     )
 
--- the command line: these options, any number of texts, and `--version`
+-- the command line: the options above, any number of texts, and `--version`
 abbrev pub start : App
 start = on_top (λ s. record s { no_binary_name = true; has_version = true }) (new_app (codes "fribidi"))
 
 unfoldable pub program : App
 program = fold with_rule start (layout_rules ++ (print_rules ++ script_rule ∷ queries_rule ∷ files_rule ∷ []))
 
--- how base levels are found: by the only option that is given or, if there is none, by the first strong character
+-- how base levels are found: as the only given option says or, without one, by the first strong character;
+-- `None` if several options are given
 abbrev pub base_by : Bool → Bool → Bool → Bool → Option Base
 base_by true false false false = Some base.Rtl
 base_by false true false false = Some base.Ltr
@@ -93,7 +94,7 @@ abbrev pub base_of : List Row → Option Base
 base_of rows =
     base_by (is_given (codes "rtl") rows) (is_given (codes "ltr") rows) (is_given (codes "wrtl") rows) (is_given (codes "wltr") rows)
 
--- the Unicode version with the given name, or 15.0 if the option is not given
+-- the Unicode version with the given name, or `None` if there is none; 15.0 if the option is not given
 abbrev pub version_named : Text → Option Version
 version_named name = if bytes_eq name (codes "15.0") then Some V15_0 else if bytes_eq name (codes "17.0") then Some V17_0 else None
 
@@ -104,7 +105,7 @@ version_by (Some name) = version_named name
 abbrev pub version_of : List Row → Option Version
 version_of rows = version_by (first_of (codes "unicode") rows)
 
--- a script needs exactly one text
+-- whether the number of texts is allowed: a script needs exactly one
 abbrev pub fits_script : Bool → ℕ → Bool
 fits_script has_script texts = not has_script || texts == 1
 
@@ -114,7 +115,7 @@ texts_of rows = unwrap_or (all_of (codes "files") rows) []
 abbrev pub script_fits : List Row → Bool
 script_fits rows = fits_script (is_some (first_of (codes "script") rows)) (length (texts_of rows))
 
--- queries need a script
+-- whether the use of queries is allowed: they need a script
 abbrev pub fits_queries : Bool → Bool → Bool
 fits_queries queries has_script = not queries || has_script
 
@@ -158,14 +159,14 @@ pub record AreSettings (words : List Text) (settings : Settings) : Type 0 where
   pub one : script_fits (matches_of program words) ≡ true
   pub asked : queries_fit (matches_of program words) ≡ true
 
--- the text of an option's value is a number from 1 to `most`
+-- the value of an option is a decimal number from 1 to `most`
 pub record HasNumber (name : Text) (most : ℕ) (rows : List Row) : Type 0 where
   pub text : Text
   pub first : first_of name rows ≡ Some text
   pub one : one_of name rows ≡ Some text
   pub allowed : IsNumeral 10 (without_leading_plus text) × (1 ≤ number_of text) × (number_of text ≤ most)
 
--- there is no tab width, or it is a number from 1 to 255
+-- the option `tabs` is not given, or its value is a number from 1 to 255
 abbrev pub HasTabs : List Row → Type 0
 HasTabs rows = ((first_of (codes "tabs") rows ≡ None) × (one_of (codes "tabs") rows ≡ None)) ⊎ HasNumber (codes "tabs") 255 rows
 
@@ -179,8 +180,8 @@ pub record AreMatches (words : List Text) (matches : ArgMatches) : Type 0 where
   pub tabs : HasTabs (rows_of (found_of matches))
 
 -- Either `clap` refuses the arguments with this kind of error, or it accepts them and the fault is the first that applies.
--- The faults are, in order: more than one base direction is set, there is no such Unicode version, a script does not
--- have exactly one text, there are queries without a script.
+-- The faults are, in order: several base directions, an unknown Unicode version, a script without exactly one
+-- text, and queries without a script.
 abbrev pub IsLineFault : List Text → LineFault → Type 0
 IsLineFault words (Words error) = IsAmong (kind_of error) (fault_of program words)
 IsLineFault words Directions = (fault_of program words ≡ []) × (base_of (matches_of program words) ≡ None)

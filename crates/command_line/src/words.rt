@@ -20,7 +20,7 @@ use lines::{Options, Print};
 use std::alloc::{AllocError, Global};
 use ucd::Version;
 
-// Returns the command with all options and the texts.
+// Returns the `clap` command with all options and the argument for texts.
 fn command<'a>(alloc: Global) -> Result<Command<'a>, AllocError>
     ensures { IfOk result (λ command. app_of command ≡ program) }
 {
@@ -275,7 +275,7 @@ fn fits_queries(queries: bool, script: Option<&str>) -> bool
 /// Parses the arguments after the program's name with `clap`.
 ///
 /// Fails with `Words` if `clap` refuses the arguments, or if they request help or the version. Fails with
-/// `NoMemory` if `clap` runs out of memory before it has decided this.
+/// `NoMemory` if `clap` runs out of memory before it has found such a reason.
 pub fn parse<'a>(alloc: Global, words: &'a [&'a str]) -> Result<ArgMatches<'a>, LineFault>
     ensures ok { IfOk result (AreMatches (map (λ word. word.now) words.entry.now)) }
     ensures err { IfErr result (IsLineFault (map (λ word. word.now) words.entry.now)) }

@@ -6,8 +6,8 @@
 //! - `conformance lines-of UCD DIRECTION [VERSION]` lays out each paragraph as a single line, and prints its
 //!   base level, its levels and its order.
 //! - `conformance levels-of UCD DIRECTION [VERSION]` prints the levels of each paragraph before L1.
-//! - `conformance starts-of UCD WIDTH [VERSION]` fills each paragraph again at a width, and prints where its
-//!   lines start.
+//! - `conformance starts-of UCD WIDTH [VERSION]` lays out each paragraph, fills it again at WIDTH columns,
+//!   and prints where its lines start.
 //!
 //! Without arguments, the program prints its usage. The first two commands are for Unicode's conformance
 //! tests (`tests/conformance/run`). The other commands make calls that the program `fribidi` never makes, so
@@ -64,7 +64,7 @@ fn run(rt: &HostRuntime, words: &[String]) -> Result<()> {
     Ok(())
 }
 
-// Returns an argument, or an empty string if it is missing. The first argument is the program's name.
+// Returns an argument, or an empty string if it is missing. Argument 0 is the program's name.
 fn word(words: &[String], place: usize) -> &str {
     match words.get(place) {
         Some(word) => word.as_str(),
@@ -79,7 +79,8 @@ const DIRECTIONS: [(&str, Base); 4] = [
     ("wrtl", Base::WeakRtl),
 ];
 
-// Returns the base direction with this name, as in the command's options.
+// Returns the base direction with this name. The names are those of the command's options. Fails for any
+// other name.
 fn base(direction: &str) -> Result<Base> {
     for (name, base) in &DIRECTIONS {
         if direction == *name {
@@ -96,7 +97,7 @@ struct Source<'a> {
     version: Version,
 }
 
-// Returns the version with this name, or 15.0 for an empty name.
+// Returns the version with this name, or 15.0 for an empty name. Fails for any other name.
 fn version(name: &str) -> Result<Version> {
     match name {
         "" | "15.0" => Ok(Version::V15_0),
@@ -236,8 +237,8 @@ fn character(word: &str) -> Result<char> {
     }
 }
 
-// Prints a paragraph of one line, for example as `1; 1 2; 1 0`: its base level and, for its shown part, the
-// levels after L1 and the logical positions in visual order.
+// Prints a paragraph of one line, for example as `1; 1 2; 1 0`. These are its base level and, for its shown
+// part, the levels after L1 and the logical positions in visual order.
 fn write_line<W: Write>(output: &mut W, laid: &Laid) -> Result<()> {
     let Some(line) = laid.line(0) else {
         bail!("there is no line");
@@ -285,7 +286,7 @@ fn write_places<W: Write>(output: &mut W, places: &[u32]) -> Result<()> {
     Ok(writeln!(output)?)
 }
 
-// Lays out a paragraph in as few lines as possible.
+// Lays out a paragraph at the maximum width. Fails if the text is not one paragraph.
 fn lay_out(alloc: Global, engine: &mut Engine, text: Vec<char>) -> Result<Laid>
     ensures { IfOk result (IsLaidOut (rules_of engine.new)) }
 {

@@ -51,7 +51,7 @@ Writes old new result given =
     MatchResult result (λ n. MatchBool (n == 0) (Fails old new) (Takes old new n given)) (λ _. Fails old new)
 
 -- One call failed between two states, and no bytes were transferred after the failure. The count of failures
--- increased, unless it already was at its maximum.
+-- increased, unless it was already at its maximum.
 pub record FailedLast (old new : Device) : Type 0 where
   pub failures : new.failures ≡ min (old.failures + 1) greatest
   pub last : new.failed_at ≡ new.passed

@@ -30,7 +30,7 @@ impl<R: io::Read> FromRead<R> {
         }
     }
 
-    // Counts a failed call.
+    // Records a failed call, and how many bytes had been read before it.
     fn count_failure(&mut self)
         ensures { Fails (source_state R.remaining self.old) (source_state R.remaining self.new) }
     {

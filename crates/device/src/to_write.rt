@@ -30,7 +30,7 @@ impl<W: io::Write> ToWrite<W> {
         }
     }
 
-    // Counts a failed call.
+    // Records a failed call, and how many bytes had been written before it.
     fn count_failure(&mut self)
         ensures { Fails (sink_state W.contents self.old) (sink_state W.contents self.new) }
     {

@@ -50,8 +50,8 @@ fn run(rt: &HostRuntime) -> Result<(), ProgramFault> {
     run_words(rt, &words)
 }
 
-// Runs the command with these arguments. This function and those that it calls own one allocated value each,
-// since each value that is dropped when a call fails makes the proof longer.
+// Runs the command with these arguments. This function and those that it calls each own only one allocated
+// value, because every value to drop after a failed call makes the proof longer.
 fn run_words(rt: &HostRuntime, words: &[&str]) -> Result<(), ProgramFault> {
     match settings(rt.alloc(), words) {
         Ok(settings) => run_settings(rt, &settings),
@@ -86,8 +86,8 @@ fn run_over(
     run_tables(rt, tables, &settings)
 }
 
-// Reads the installed tables of Unicode 17.0. If there are none, returns `fault`, since the arguments name no
-// folder.
+// Reads the installed tables of Unicode 17.0. If there are none, fails with `fault`, since the arguments name
+// no folder.
 fn installed_17(rt: &HostRuntime, fault: LineFault) -> Result<Tables, ProgramFault> {
     match installed_folder(rt, "../share/hordguli/ucd-17.0", Version::V17_0) {
         Ok(Some(folder)) => {
@@ -118,7 +118,8 @@ fn run_tables(rt: &HostRuntime, tables: Tables, settings: &Settings<'_>) -> Resu
     }
 }
 
-// Returns tables in which only LF and CR end paragraphs, if the option for them is set.
+// Returns tables in which only LF, CR and CRLF end paragraphs if `line_separators` is true, and otherwise
+// `tables`.
 fn separated(
     rt: &HostRuntime,
     tables: Tables,

@@ -1,5 +1,5 @@
 //! A session in a few lines: opens, edits, rewraps, reads and prints a text. `README.md` shows the bodies of
-//! `main` and `edit`. CI checks that both copies are the same.
+//! `main` and `edit`. CI checks that they are the same there and here.
 #![tactic(auto)]
 
 use anyhow::Result;

@@ -14,12 +14,12 @@ use terminal::{Fault, Form, run};
 #[derive(Clone, Copy)]
 pub(crate) struct Showing<'a> {
     pub form: Form<'a>,
-    /// Whether each file has one direction.
+    /// Whether all paragraphs of a file have the direction of the whole file.
     pub by_file: bool,
 }
 
-/// Writes the lines of each file, in order, and reports each file that cannot be read. `-` is standard input,
-/// which is also read if there are no files. Returns whether all files could be read and laid out.
+/// Writes the lines of each file, in order, and reports errors in files. `-` is standard input, which is also
+/// read if there are no files. Returns true if no error was reported.
 pub(crate) fn show_files(
     rt: &HostRuntime,
     engine: &mut Engine,
@@ -39,7 +39,7 @@ pub(crate) fn show_files(
     Ok(all)
 }
 
-// Writes the lines of one file. Returns false after reporting why it cannot be read or laid out.
+// Writes the lines of one file. Returns false after reporting an error in the file.
 fn show_file(
     rt: &HostRuntime,
     engine: &mut Engine,
@@ -68,7 +68,7 @@ fn show_file(
     }
 }
 
-// Writes the lines of the text that a reader returns.
+// Writes the lines of the text that a reader returns. Returns false after reporting an error in it.
 fn show<R: Read + Drop>(
     rt: &HostRuntime,
     engine: &mut Engine,
@@ -120,7 +120,8 @@ fn run_input<R: Read + Drop>(
     run(rt.alloc(), &mut reader, &mut writer, engine, form, last)
 }
 
-// Does the same as `show`, but reads the start of the text first, and uses the direction of the whole text.
+// Does the same as `run_input`, but first reads the start of the text to find the direction of the whole
+// text, and uses this direction.
 fn run_by_file<R: Read + Drop>(
     rt: &HostRuntime,
     engine: &mut Engine,

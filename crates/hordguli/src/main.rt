@@ -68,8 +68,8 @@ fn print_words(rt: &HostRuntime, refused: &OptionFault) -> io::Result<()> {
     }
 }
 
-// Shows the texts. Returns whether this succeeded for all of them. This function and those that it calls own
-// one allocated value each, since each value that is dropped when a call fails makes the proof longer.
+// Shows the texts. Returns whether this succeeded for all of them. This function and those that it calls each
+// own only one allocated value, because every value to drop after a failed call makes the proof longer.
 fn run(rt: &HostRuntime) -> Result<bool, End> {
     let line = arguments(rt).map_err(argument_fault)?;
     run_arguments(rt, &line)

@@ -14,7 +14,7 @@ pub(crate) fn report(rt: &HostRuntime, name: &str, reason: &str) {
     let _ = eprintln!(rt; "hordguli: {name}: {reason}");
 }
 
-// Returns the system's reason without its number.
+// Returns the system's error message without the error number at its end.
 fn reason_in(text: &str) -> &str {
     match text.split_once(" (os error ") {
         Some((reason, _)) => reason,

@@ -22,7 +22,7 @@ fn folder_of(version: Version) -> &'static str {
     }
 }
 
-/// Returns the layout options that the settings select.
+/// Returns the layout options that the settings specify.
 pub(crate) fn options_of(settings: &Settings<'_>) -> Options {
     Options {
         base: base_of(settings.direction),
@@ -66,7 +66,7 @@ fn pattern_end(error: regex::Error) -> End {
     }
 }
 
-/// Returns the form of the output that the settings select.
+/// Returns the form of the output that the settings specify.
 pub(crate) fn form_of<'a>(
     rt: &HostRuntime,
     settings: &Settings<'_>,
@@ -91,7 +91,7 @@ fn width_of(rt: &HostRuntime, width: Width) -> Result<u16, End> {
     }
 }
 
-// Returns the number of columns that `COLUMNS` contains, or 80 if it contains none.
+// Returns the number of columns in `COLUMNS`, or 80 if that is not a number from 1 to 65,535.
 fn terminal_width(rt: &HostRuntime) -> Result<u16, End> {
     match env::var(rt, "COLUMNS") {
         Ok(columns) => Ok(columns_in(&columns)),
@@ -115,7 +115,8 @@ pub(crate) fn tables_of(rt: &HostRuntime, settings: &Settings<'_>) -> Result<Tab
     }
 }
 
-/// Returns tables in which only LF and CR end paragraphs, if the option for them is set.
+/// Returns tables in which only LF, CR and CRLF end paragraphs if `line_separators` is true, and otherwise
+/// `tables`.
 pub(crate) fn separated(
     rt: &HostRuntime,
     tables: Tables,

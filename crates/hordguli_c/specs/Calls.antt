@@ -18,7 +18,7 @@ abbrev pub Asks : {A O : Type 0} → (Status → A → O → O → Type 0) → S
 Asks says status None old new = (status ≡ is.Closed) × (new ≡ old)
 Asks says status (Some held) old new = says status held old new
 
--- a query with options, which fails if an option bit is unknown
+-- a query with options; if a bit is unknown, the status is `UnknownOption` and nothing is written
 abbrev pub AsksBy : {P A O : Type 0} → (P → Status → A → O → O → Type 0) → Option P → Status → Option A → O → O → Type 0
 AsksBy says None status held old new = (status ≡ is.UnknownOption) × (new ≡ old)
 AsksBy says (Some options) status held old new = Asks (says options) status held old new
@@ -34,6 +34,7 @@ abbrev pub Gives : {O : Type 0} → Option O → Status → O → O → Type 0
 Gives None status old new = (status ≡ is.OutOfRange) × (new ≡ old)
 Gives (Some x) status old new = (status ≡ is.Ok) × (new ≡ x)
 
--- a call on a text that is passed as bytes; if the bytes are not UTF-8, nothing changes
+-- a call on a text that is passed as bytes; if they are not UTF-8, the status is `NotUtf8` and nothing
+-- changes
 abbrev pub OfText : List ℕ → Status → Type 0 → (List ℕ → Type 0) → Type 0
 OfText bytes status unchanged does = Given (IsUtf8 bytes) is.NotUtf8 status unchanged (does (chars bytes))

@@ -47,7 +47,7 @@ hit_out hit = record { pos = hit.pos; trailing = flag hit.trailing; zero = 0 }
 abbrev pub cluster_out : Cluster → ClusterOut
 cluster_out cluster = record { start = cluster.start; end = cluster.end }
 
--- the cluster of a character is stored
+-- the cluster of the character at `pos` is stored, if there is such a character
 abbrev pub GivesCluster : ℕ → Status → SessionState → ClusterOut → ClusterOut → Type 0
 GivesCluster pos status state old new =
     OrNoMemory (pos < length (text_at state)) status (new ≡ old)
@@ -56,7 +56,7 @@ GivesCluster pos status state old new =
 abbrev pub word_out : Word → WordOut
 word_out word = record { start = word.start; end = word.end; kind = flag word.has_letter; zero = 0 }
 
--- the word of a character is stored
+-- the word of the character at `pos` is stored, if there is such a character
 abbrev pub GivesWord : ℕ → Status → SessionState → WordOut → WordOut → Type 0
 GivesWord pos status state old new =
     OrNoMemory (pos < length (text_at state)) status (new ≡ old)
@@ -98,7 +98,7 @@ edge_out edge = record { pos = edge.pos; side = side_number edge.side; zero = 0 
 unfoldable pub IsOfCharacter : SessionState → Edge → Type 0
 IsOfCharacter state edge = HasCharacter (length (text_at state)) edge
 
--- the caret at an edge is stored
+-- the caret at an edge is stored, if the edge exists
 abbrev pub GivesEdgeCaret : Edge → Status → SessionState → CaretOut → CaretOut → Type 0
 GivesEdgeCaret edge status state old new =
     OrNoMemory (IsOfCharacter state edge) status (new ≡ old)
@@ -110,7 +110,7 @@ abbrev pub Steps : Option Edge → Status → EdgeOut × ℕ → EdgeOut × ℕ 
 Steps None status old new = (status ≡ is.Ok) × (new ≡ (old.0, 0))
 Steps (Some next) status old new = (status ≡ is.Ok) × (new ≡ (edge_out next, 1))
 
--- a step from an edge, given whether the edge exists; the step may allocate if the text is not empty
+-- the result of a step from an edge, given whether the edge exists; may allocate if the text is not empty
 abbrev pub StepsIf : Bool → ℕ → Option Edge → Status → EdgeOut × ℕ → EdgeOut × ℕ → Type 0
 StepsIf true chars next status old new = OrNoMemory (0 < chars) status (new ≡ old) (Steps next status old new)
 StepsIf false chars next status old new = (status ≡ is.OutOfRange) × (new ≡ old)
@@ -124,19 +124,19 @@ GivesStep asked status state old new =
 abbrev pub step_of : ℕ → ℕ → ℕ → Option (Edge × Direction)
 step_of pos side direction = option_and_then (λ edge. option_map (λ towards. (edge, towards)) (step_direction direction)) (edge_of pos side)
 
--- the edge at a column is stored
+-- the edge at a column of line n is stored
 abbrev pub GivesEdge : ℕ → ℕ → Status → SessionState → EdgeOut → EdgeOut → Type 0
 GivesEdge n column status state old new =
     OrNoMemory (n < length (lines_in state.kept)) status (new ≡ old)
     (Gives (option_map edge_out (edge_at (rules_of state.engine) state.kept n column)) status old new)
 
--- the edge nearest to a column is stored
+-- the edge nearest to a column of line n is stored
 abbrev pub GivesNearestEdge : ℕ → ℕ → Status → SessionState → EdgeOut → EdgeOut → Type 0
 GivesNearestEdge n column status state old new =
     OrNoMemory (n < length (lines_in state.kept)) status (new ≡ old)
     (Gives (option_map edge_out (nearest_edge (rules_of state.engine) state.kept n column)) status old new)
 
--- the two edges of a line are stored
+-- the first and the last edge of a line, in the form in which they are stored
 abbrev pub edges_out : LineEdges → EdgeOut × EdgeOut
 edges_out edges = (edge_out edges.first, edge_out edges.last)
 

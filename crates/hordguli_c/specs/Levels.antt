@@ -25,7 +25,7 @@ mark_number Never = 0
 mark_number May = 1
 mark_number Must = 2
 
--- the reason why numbers are not accepted as characters: one is not a scalar value, or an allocation failed
+-- the status if numbers were not converted to characters: one is not a scalar value, or an allocation failed
 abbrev pub CharactersNot : List ℕ → Status → Type 0
 CharactersNot numbers status =
     ((¬ All IsScalar numbers) × (status ≡ is.NotACharacter))

@@ -1,5 +1,5 @@
 -- What is stored for lines, paragraphs and text of a session: numbers, bytes, characters, and lists in optional arrays.
--- Also what is stored for conversions between positions and offsets in UTF-8 bytes or UTF-16 code units.
+-- Conversions between positions and offsets in UTF-8 bytes or UTF-16 code units are also here.
 use Rattle.std.specs.Prelude.{◌≡◌, ℕ, ◌+◌, ◌<◌, ◌≤◌, ◌&&◌, Bool, List, length, map, option_map, slice_get, Option, Some, MatchBool}
 use Rattle.std.specs.List.{slice_range}
 use Rattle.lines.specs.Columns.{padding_of, width_at}
@@ -39,7 +39,7 @@ line_out width start line = record {
   first = flag line.is_first;
 }
 
--- the number of columns of the character at each visual position
+-- the width of the character at each visual position, in columns
 abbrev pub columns_in : Visual → List ℕ
 columns_in line = map (width_at line) line.vtol
 
@@ -93,16 +93,16 @@ PutsRange size first count bytes status old new =
     Given (first + count ≤ size) is.OutOfRange status (new ≡ old)
     (OrNoMemory (0 < length bytes) status (new ≡ old) (PutsItems bytes status old new))
 
--- the reason why the bytes of a range were not collected: the range is past the end, or an allocation failed
+-- why the bytes of a range were not collected: the range reaches past the end, or an allocation failed
 abbrev pub RangeNot : ℕ → ℕ → ℕ → List ℕ → RangeFault → Type 0
 RangeNot size first count bytes OutOfRange = size < first + count
 RangeNot size first count bytes (Write fault) = (first + count ≤ size) × (0 < length bytes)
 
--- the printed bytes of lines are stored
+-- the printed bytes of a range of lines are stored
 abbrev pub PutsLines : ℕ → ℕ → Print → Status → SessionState → List ℕ × ℕ → List ℕ × ℕ → Type 0
 PutsLines first count print status state = PutsRange (length (lines_in state.kept)) first count (lines_page state first count print) status
 
--- characters are stored as UTF-8
+-- the characters of a range of the text are stored as UTF-8
 abbrev pub PutsText : ℕ → ℕ → Status → SessionState → List ℕ × ℕ → List ℕ × ℕ → Type 0
 PutsText pos count status state = PutsRange (length (text_at state)) pos count (utf8_part state.kept pos count) status
 
@@ -115,12 +115,12 @@ PutsCharacters pos count status state old new =
 abbrev pub position_out : ℕ × ℕ → PositionOut
 position_out place = record { pos = place.0; rest = place.1 }
 
--- the offset of a position is stored
+-- the number of bytes or code units before a position is stored
 abbrev pub GivesOffset : Encoding → ℕ → Status → SessionState → ℕ → ℕ → Type 0
 GivesOffset encoding pos status state = Gives (offset_of encoding (text_at state) pos) status
 
--- the position of the character that contains an offset is stored, and how many of its bytes or code units precede the
--- offset
+-- two numbers are stored: the position of the character that contains an offset, and how many bytes or code
+-- units of that character precede the offset
 abbrev pub GivesPosition : Encoding → ℕ → Status → SessionState → PositionOut → PositionOut → Type 0
 GivesPosition encoding offset status state = Gives (option_map position_out (position_of encoding (text_at state) offset)) status
 

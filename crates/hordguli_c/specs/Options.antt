@@ -16,8 +16,9 @@ abbrev pub base_of : ℕ → Base
 base_of bits =
     if bits % 4 == 0 then WeakLtr else if bits % 4 == 1 then WeakRtl else if bits % 4 == 2 then Ltr else Rtl
 
--- Whether neither of the two direction bits is given both as 1 and as 0, and no bit above 26 is set. Bit 24 states that
--- the lowest bit is 0, and bit 25 that the next bit is 0. So the combined bits of two directions are refused.
+-- Whether no bit above 26 is set, and neither of the two direction bits is stated to be both 1 and 0. Bit 24
+-- states that the lowest bit is 0, and bit 25 that the next bit is 0. So the combined bits of two directions
+-- are refused.
 abbrev pub names_direction : ℕ → Bool
 names_direction bits =
     not (has_bit bits 1 && has_bit bits 16777216)
@@ -31,7 +32,7 @@ separates_lines bits = has_bit bits 67108864
 abbrev pub tables_by : ℕ → Option Tables → Option Tables
 tables_by bits held = option_map (contents_if (separates_lines bits)) held
 
--- the base direction, or `None` if another bit is set or the bits combine two directions
+-- the base direction, or `None` if a bit from 2 to 23 or above 26 is set, or the bits combine two directions
 abbrev pub direction_of : ℕ → Option Base
 direction_of bits = if nat_lt (bits % 16777216) 4 && names_direction bits then Some (base_of bits) else None
 
@@ -46,8 +47,8 @@ tailoring_in bits = if bits == 0 then Some false else if bits == 16 then Some tr
 abbrev pub tailoring_of : ℕ → Option Bool
 tailoring_of bits = option_and_then tailoring_in (low_bits_of bits)
 
--- The options of a session, with the tab width in bits 8 to 15. `None` if an unknown bit or one of bits 16 to 23 is
--- set, or the bits combine two directions.
+-- The options of a session, with the tab width in bits 8 to 15. `None` if bit 7, one of bits 16 to 23, or a
+-- bit above 26 is set, or the bits combine two directions.
 abbrev pub options_of : ℕ → Option Options
 options_of bits =
     if nat_lt (bits % 256) 128 && (bits / 65536 % 256 == 0 && names_direction bits) then Some (record {
@@ -67,7 +68,7 @@ row_options_in bits = if bits == 0 || (bits == 8 || (bits == 32 || bits == 40)) 
 abbrev pub row_options_of : ℕ → Option Options
 row_options_of bits = option_and_then row_options_in (low_bits_of bits)
 
--- the print options of a line, or `None` if an unknown bit is set
+-- what to print for each line, or `None` if a bit above 6 is set
 abbrev pub print_of : ℕ → Option Print
 print_of bits =
     if nat_lt bits 128 then Some (record {
@@ -80,7 +81,7 @@ print_of bits =
       nomirror = not (has_bit bits 64);
     }) else None
 
--- how a text is laid out and printed, or `None` if an unknown bit is set
+-- how a text is laid out and printed, or `None` if the options or the print flags are refused
 abbrev pub page_form_of : ℕ → ℕ → ℕ → Option PageForm
 page_form_of options width print =
     option_and_then (λ options. option_map (λ print. record { options = options; width = width; print = print }) (print_of print)) (options_of options)

@@ -24,7 +24,7 @@ use Rattle.hordguli_c.specs.declared.reason_calls.ReasonOut.{ReasonOut}
 use Rattle.hordguli_c.specs.declared.status.Status.{Status}
 use Rattle.hordguli_c.specs.declared.status.Status.TheVariants as is
 
--- The number for a missing position. Paragraphs of this length or longer are refused.
+-- The number that is stored for a missing position. Paragraphs of this length or longer are refused.
 abbrev pub no_position : ℕ
 no_position = 2 ^ 32 - 1
 
@@ -95,7 +95,7 @@ rule_letter LB30a = 97
 rule_letter LB30b = 98
 rule_letter rule = 0
 
--- the number of a class, or 255 if there is none
+-- the number of a line breaking class, or 255 if there is none
 abbrev pub class_number : Option LineClass → ℕ
 class_number (Some class) = line_number class
 class_number None = 255
@@ -113,7 +113,7 @@ break_reason_out reason = record {
 
 -- ---- levels (UAX #9)
 
--- the number of a class, or 255 if there is none
+-- the number of a bidi class, or 255 if there is none
 abbrev pub direction_number : Option BidiClass → ℕ
 direction_number (Some class) = bidi_number class
 direction_number None = 255
@@ -135,7 +135,7 @@ neutral_number None = 0
 neutral_number (Some N1) = 1
 neutral_number (Some N2) = 2
 
--- the class of a character that X9 keeps, and its types after X8, each of W1 to W7, N0, and N2
+-- the class of a character that X9 keeps, and its type after each of X8, W1 to W7, N0, and N2
 abbrev pub classes_after : LevelReason → SequenceReason → List ℕ
 classes_after reason found =
     bidi_number reason.class ∷ bidi_number reason.explicit.class
@@ -192,7 +192,7 @@ reason_out reason = reason_with reason reason.resolved
 
 -- ---- levels and break marks
 
--- one record for each character is stored, if the records fit in the array and their positions in 32 bits
+-- one record for each character is stored, if the records fit in the array and all positions fit in 32 bits
 abbrev pub PutsRecords : {R : Type 0} → (List ℕ → List R) → List ℕ → Status → List R → List R → Type 0
 PutsRecords records characters status old new =
     Given (length characters ≤ length old) is.NoRoom status (new ≡ old)

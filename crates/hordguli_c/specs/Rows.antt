@@ -1,5 +1,5 @@
--- Rows that a caller has chosen. The levels of a row are taken from its paragraph, before L1. All characters of a row
--- are shown, including those at its end.
+-- Rows: ranges of a paragraph that the caller has chosen, each laid out as one line. The levels of a row are
+-- taken from its paragraph, before L1. All characters of a row are shown, including those at its end.
 use Rattle.std.specs.Prelude.{◌≡◌, ℕ, ◌<◌, ◌≤◌, ◌⊎◌, ◌&&◌, true, Bool, List, length, map, All}
 use Rattle.std.specs.Char.{IsScalar}
 use Rattle.ucd.specs.Tables.{class_of}
@@ -19,9 +19,9 @@ use Rattle.hordguli_c.specs.declared.runs.RunOut.{RunOut}
 use Rattle.hordguli_c.specs.declared.status.Status.{Status}
 use Rattle.hordguli_c.specs.declared.status.Status.TheVariants as is
 
--- Whether the base level and the levels of a row before L1 are in range, with one level per character.
--- Explicit levels are at most 125 (UAX #9, BD2), and I1 and I2 add at most 1 to each. Positions in a row have
--- 32 bits.
+-- Whether the base level of a row, its levels before L1 and its length are in range, with one level per
+-- character. Explicit levels are at most 125 (UAX #9, BD2), and I1 and I2 add at most 1 to each. Positions in
+-- a row have 32 bits.
 pub record IsRow (base : ℕ) (text levels : List ℕ) : Type 0 where
   pub base_is : base ≤ 1
   pub levels_are : All (λ level. level ≤ 126) levels
@@ -40,18 +40,20 @@ pub record Row : Type 0 where
 abbrev pub row_in_line : Line → Row
 row_in_line line = record { levels = line.levels; ltov = line.ltov; vtol = line.vtol; chars = line.chars }
 
--- L1, as if the row were a line: the levels of white space at its end are reset too
+-- the levels of a row after L1, which treats the row as a line: white space at the row's end gets the base
+-- level
 unfoldable pub row_levels : Tables → ℕ → List ℕ → List ℕ → List ℕ
 row_levels tables base text levels = line_levels base (map (class_of tables) text) levels
 
--- the position maps by L2 and, if requested, by L3 for the clusters of the row's own characters or for marks
+-- the position maps by L2 and, if requested, by L3, applied to the clusters of the row's own characters or to
+-- marks
 abbrev pub row_vtol : Tables → Options → List ℕ → List ℕ → List ℕ
 row_vtol tables options text levels = vtol_by options (map (class_of tables) text) (ends_by options text) levels
 
 abbrev pub row_ltov : Tables → Options → List ℕ → List ℕ → List ℕ
 row_ltov tables options text levels = ltov_by options (map (class_of tables) text) (ends_by options text) levels
 
--- L2, L3 and L4, from the levels after L1
+-- a row in visual order, given its levels after L1: applies L2, L3 and L4
 abbrev pub row_by : Tables → Options → List ℕ → List ℕ → Row
 row_by tables options text levels =
     let vtol = row_vtol tables options text levels in
@@ -108,15 +110,15 @@ row_fits wanted len arrays =
     && has_room (has_bit wanted 4) len (length arrays.ltov)
     && has_room (has_bit wanted 8) len (length arrays.vtol)
 
--- A call on a row succeeds only if all numbers are characters, and the base level and all levels are in range. The call
--- may allocate if there is at least one character.
+-- A call on a row succeeds only if all numbers are characters, and its base level, levels and length are in
+-- range. The call may allocate if there is at least one character.
 abbrev pub OfRow : ℕ → List ℕ → List ℕ → Status → Type 0 → Type 0 → Type 0
 OfRow base text levels status unchanged done =
     Given (All IsScalar text) is.NotACharacter status unchanged
     (Given (IsRow base text levels) is.OutOfRange status unchanged
     (OrNoMemory (0 < length text) status unchanged done))
 
--- the reason why a row is refused: one number is not a scalar value, the base level or a level is out of range, or an
+-- the status of a failed call on a row: a number is not a scalar value, the row is out of range, or an
 -- allocation failed
 abbrev pub RowNot : ℕ → List ℕ → List ℕ → Status → Type 0
 RowNot base text levels status =
@@ -124,14 +126,14 @@ RowNot base text levels status =
     ⊎ ((All IsScalar text × (¬ IsRow base text levels) × (status ≡ is.OutOfRange))
     ⊎ (All IsScalar text × IsRow base text levels × (status ≡ is.NoMemory) × (0 < length text)))
 
--- the requested arrays of a row are written
+-- the requested arrays of a row are written, if all of them are large enough and the row is accepted
 abbrev pub PutsRow : ℕ → ℕ → List ℕ → List ℕ → Options → Status → Tables → RowArrays → RowArrays → Type 0
 PutsRow wanted base text levels options status tables old new =
     Given (row_fits wanted (length text) old ≡ true) is.NoRoom status (new ≡ old)
     (OfRow base text levels status (new ≡ old)
     ((status ≡ is.Ok) × (new ≡ row_put wanted (row_of tables options base text levels) old)))
 
--- the runs of a row are stored
+-- the runs of a row are stored, if the row is accepted
 abbrev pub PutsRowRuns : ℕ → List ℕ → List ℕ → Status → Tables → List RunOut × ℕ → List RunOut × ℕ → Type 0
 PutsRowRuns base text levels status tables old new =
     OfRow base text levels status (new ≡ old) (PutsItems (runs_out (row_levels tables base text levels)) status old new)

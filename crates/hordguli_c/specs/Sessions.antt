@@ -88,8 +88,8 @@ ChangesLines before after damage = AreChanged (lines_in before.kept) (lines_in a
 abbrev pub KeepsLines : SessionState → SessionState → Type 0
 KeepsLines before after = after.changed ≡ before.changed
 
--- Either an edit is executed and its damage is stored, or the edit fails and nothing is stored. The error is `NoMemory`
--- only if `may_want` holds.
+-- Either an edit is executed and its damage is stored, or the edit fails and nothing is stored. The error can
+-- be `NoMemory` only if `may_want` holds.
 abbrev pub Tries : (SessionState → SessionState → Damage → Type 0) → (SessionState → SessionState → EditFault → Type 0) → Type 0
     → Status → SessionState → SessionState → DamageOut → DamageOut → Type 0
 Tries makes refuses may_want status before after old new =

@@ -12,7 +12,7 @@ statuses =
     is.Ok ∷ is.OutOfRange ∷ is.WidthOutOfRange ∷ is.TextTooLong ∷ is.ParagraphTooLong ∷ is.NoMemory ∷ is.TableFault ∷ is.NotUtf8
     ∷ is.NotACharacter ∷ is.Closed ∷ is.AlreadyOpen ∷ is.UnknownOption ∷ is.NoRoom ∷ is.NoRoom ∷ is.NoRoom ∷ is.NoRoom ∷ is.NotMeasured ∷ []
 
--- the status with the given number; no function returns 13 to 15, or a number above 16
+-- the status with the given number; 13 to 15 come from hordguli.c alone, and no number is above 16
 unfoldable pub status_of : ℕ → Status
 status_of number = slice_index_or statuses number is.NoRoom
 

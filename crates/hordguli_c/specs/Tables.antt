@@ -1,4 +1,4 @@
--- How the functions on handles of tables change these handles.
+-- How the functions that take a handle of tables change the handle, and what they store.
 use Rattle.std.specs.Prelude.{◌≡◌, ℕ, ◌-◌, ◌⊎◌, ◌==◌, List, Option, Some, None, if◌then◌else◌}
 use Rattle.ucd.specs.Imaged.{IsImageOf}
 use Rattle.ucd.specs.Images.{IsImageFault, version_number}
@@ -60,7 +60,7 @@ ReadsTablesBy (Some version) files status before after old new = ReadsTables ver
 abbrev pub TellsVersion : Status → Tables → ℕ → ℕ → Type 0
 TellsVersion status tables old new = (status ≡ is.Ok) × (new ≡ version_number tables.version)
 
--- the number of the cause for each fault of an image
+-- the cause number of each fault of an image
 abbrev pub image_cause_number : ImageFault → ℕ
 image_cause_number image.Truncated = 8
 image_cause_number image.Magic = 9

@@ -27,7 +27,8 @@ abbrev pub UnlessRefused : Option EditFault → Status → Type 0 → Type 0 →
 UnlessRefused None status unchanged rest = rest
 UnlessRefused (Some fault) status unchanged rest = (status ≡ edit_status fault) × unchanged
 
--- The printed lines of a text are stored. The lines are collected before they are copied.
+-- The printed lines of a text are stored. The lines are collected before they are copied, so an allocation
+-- may fail before their length is known.
 abbrev pub PutsPage : PageForm → List ℕ → Status → Tables → List ℕ × ℕ → List ℕ × ℕ → Type 0
 PutsPage form text status tables old new =
     let rules : Rules = unmeasured tables form.options in
@@ -39,7 +40,7 @@ abbrev pub PrintsText : Option PageForm → List ℕ → Status → Option Table
 PrintsText None bytes status held old new = (status ≡ is.UnknownOption) × (new ≡ old)
 PrintsText (Some form) bytes status held old new = OfText bytes status (new ≡ old) (λ text. Asks (PutsPage form text) status held old new)
 
--- the offset of a character: how many bytes of UTF-8 the characters before it need
+-- the offset of a character: how many bytes the characters before it have in UTF-8
 abbrev pub offset_at : List ℕ → ℕ → ℕ
 offset_at text k = sum_by len_utf8 (take k text)
 
@@ -69,6 +70,6 @@ PutsDecoded wanted text status old new =
     × MatchBool (decoded_fits wanted text old.1) ((status ≡ is.Ok) × (new.1 ≡ decoded_put wanted text old.1))
     ((status ≡ is.NoRoom) × (new.1 ≡ old.1))
 
--- the characters of UTF-8 text are stored
+-- the characters of a text that is passed as bytes, and their offsets, are stored if the bytes are UTF-8
 abbrev pub Decodes : ℕ → List ℕ → Status → ℕ × DecodedArrays → ℕ × DecodedArrays → Type 0
 Decodes wanted bytes status old new = OfText bytes status (new ≡ old) (λ text. PutsDecoded wanted text status old new)

@@ -24,7 +24,7 @@ pub fn are_characters(numbers: &[u32]) -> bool
     true
 }
 
-/// Converts numbers to characters.
+/// Converts numbers, all of which must be Unicode scalar values, to characters.
 pub fn collect_characters(alloc: Global, numbers: &[u32]) -> Result<Vec<char>, AllocError>
     requires { All IsScalar numbers.now }
     ensures text { IfOk result (λ text. text.items ≡ numbers.now) }
@@ -63,7 +63,7 @@ pub fn put_levels(list: &[u8], array: &mut [u8])
     array[..list.len()].copy_from_slice(list);
 }
 
-/// Returns the number of a break mark in C.
+/// Returns the number for a break mark in C.
 pub fn mark_number(mark: Mark) -> u8
     ensures { result ≡ mark_number mark }
 {
@@ -91,8 +91,8 @@ pub fn put_marks(marks: &[Mark], array: &mut [u8])
     put_each_mark(marks, &mut array[..marks.len()]);
 }
 
-/// Returns whether `len` elements fit in an array with a capacity of `room`, or the array is not `wanted`
-/// because its pointer is NULL.
+/// Returns whether `len` elements fit in an array of `room` elements. If the array is not `wanted` (its
+/// pointer is NULL), returns true.
 pub fn has_room(wanted: bool, len: usize, room: usize) -> bool
     ensures { result ≡ has_room wanted len room }
 {
@@ -179,8 +179,8 @@ fn put_columns(line: &VisualLine<'_>, array: &mut [usize])
     put_each_columns(line, &mut array[..line.vtol().len()]);
 }
 
-/// Stores the number of columns at each visual position of a line at the front of an array, if the array is
-/// `wanted`.
+/// Writes the width in columns of the character at each visual position to the front of an array, if the
+/// array is `wanted`.
 pub fn put_columns_if(wanted: bool, line: &VisualLine<'_>, array: &mut [usize])
     requires { has_room wanted (length line.now.vtol) (length array.old) ≡ true }
     ensures { array.new ≡ put_if wanted (columns_in line.now) array.old }
@@ -190,7 +190,7 @@ pub fn put_columns_if(wanted: bool, line: &VisualLine<'_>, array: &mut [usize])
     }
 }
 
-/// Copies bytes to an array, if they fit, and stores the number of bytes.
+/// Copies bytes to an array if they fit, and stores their number in either case.
 pub fn put_bytes(bytes: &[u8], array: &mut [u8], len: &mut usize) -> Status
     ensures { PutsItems bytes.now result (array.old, len.old) (array.new, len.new) }
 {
@@ -202,7 +202,7 @@ pub fn put_bytes(bytes: &[u8], array: &mut [u8], len: &mut usize) -> Status
     Status::Ok
 }
 
-/// Copies positions to an array, if they fit, and stores their number.
+/// Copies positions to an array if they fit, and stores their number in either case.
 pub fn put_ends(ends: &[usize], array: &mut [usize], count: &mut usize) -> Status
     ensures { PutsItems ends.now result (array.old, count.old) (array.new, count.new) }
 {

@@ -241,7 +241,7 @@ pub struct SpanOut {
     pub right: usize,
 }
 
-// Returns the number of spans of a range. Positions count from the start of the line.
+// Returns the number of spans of a range. Positions are counted from the start of the line.
 fn span_count(line: &VisualLine<'_>, from: usize, to: usize) -> usize
     ensures { result ≡ length (spans_out line.now from to) }
 {
@@ -254,7 +254,7 @@ fn span_count(line: &VisualLine<'_>, from: usize, to: usize) -> usize
     count
 }
 
-// Copies the spans of a range to the front of an array. Positions count from the start of the line.
+// Writes the spans of a range to the front of an array. Positions are counted from the start of the line.
 fn put_each_span(line: &VisualLine<'_>, from: usize, to: usize, array: &mut [SpanOut])
     requires { length (spans_out line.now from to) ≤ length array.old }
     ensures { array.new ≡ put (spans_out line.now from to) array.old }
@@ -311,7 +311,7 @@ fn find_spans(
     )
 }
 
-/// Stores the columns that a range of characters covers in a line.
+/// Stores the spans of columns that a range of characters covers in a line, if they fit, and their number.
 #[unsafe(no_mangle)]
 pub extern "C" fn hordguli_core_spans(
     alloc: Global,
@@ -494,7 +494,8 @@ fn find_step(
     }
 }
 
-/// Stores the edge after a step to the left or to the right on the line of an edge.
+/// Stores the edge after a step to the left or right from an edge, on the edge's line, and the number of
+/// steps: 1. If no step is possible, stores only the number 0.
 #[unsafe(no_mangle)]
 pub extern "C" fn hordguli_core_step(
     alloc: Global,

@@ -186,7 +186,7 @@ fn show_line(
     put_line(&line, wanted, characters, levels, ltov, vtol, columns)
 }
 
-/// Stores information about a line, and the arrays that `wanted` selects.
+/// Stores information about a line, and writes the arrays that `wanted` selects.
 #[unsafe(no_mangle)]
 pub extern "C" fn hordguli_core_line(
     alloc: Global,
@@ -261,7 +261,7 @@ pub extern "C" fn hordguli_core_runs(
 // The maximum number of bytes reserved for output before its size is known.
 const FIRST_ROOM: usize = 1_024;
 
-// Returns the printed form of lines, to be copied to an array of `len` bytes.
+// Returns the printed bytes of lines, to be copied to an array of `len` bytes.
 fn printed(
     alloc: Global,
     session: &SessionObject,
@@ -300,7 +300,7 @@ fn put_lines(
     }
 }
 
-/// Copies lines, in the form in which they are printed, to an array as UTF-8, if they fit.
+/// Copies the printed bytes of lines to an array if they fit. Stores the number of bytes in either case.
 #[unsafe(no_mangle)]
 pub extern "C" fn hordguli_core_lines_utf8(
     alloc: Global,
@@ -363,7 +363,7 @@ fn put_text(
     }
 }
 
-/// Copies characters to an array as UTF-8, if they fit.
+/// Copies a range of characters as UTF-8 to an array if they fit. Stores the number of bytes in either case.
 #[unsafe(no_mangle)]
 pub extern "C" fn hordguli_core_text(
     alloc: Global,
@@ -423,7 +423,7 @@ fn put_text_utf32(
     Status::Ok
 }
 
-/// Copies characters to an array, if they fit.
+/// Copies a range of characters to an array if they fit, and stores their number in either case.
 #[unsafe(no_mangle)]
 pub extern "C" fn hordguli_core_text_utf32(
     alloc: Global,
@@ -457,7 +457,7 @@ fn find_utf8_len(session: &SessionObject, pos: usize, count: usize, len: &mut us
     }
 }
 
-/// Stores the length in bytes of characters in UTF-8.
+/// Stores how many bytes a range of characters has in UTF-8.
 #[unsafe(no_mangle)]
 pub extern "C" fn hordguli_core_utf8_length(
     alloc: Global,
@@ -478,7 +478,7 @@ pub extern "C" fn hordguli_core_utf8_length(
     )
 }
 
-/// A position, and an offset in the character there (`hordguli_position` in C).
+/// A position, and an offset within the character at that position (`hordguli_position` in C).
 #[repr(C)]
 #[derive(Clone, Copy)]
 pub struct PositionOut {
@@ -550,7 +550,7 @@ pub extern "C" fn hordguli_core_utf16_of(
     )
 }
 
-/// Stores the position of the character that contains a UTF-8 byte.
+/// Stores the position of the character that contains a UTF-8 byte, and the index of the byte within it.
 #[unsafe(no_mangle)]
 pub extern "C" fn hordguli_core_position_of_byte(
     alloc: Global,
@@ -570,7 +570,8 @@ pub extern "C" fn hordguli_core_position_of_byte(
     )
 }
 
-/// Stores the position of the character that contains a UTF-16 code unit.
+/// Stores the position of the character that contains a UTF-16 code unit, and the index of the unit within
+/// it.
 #[unsafe(no_mangle)]
 pub extern "C" fn hordguli_core_position_of_utf16(
     alloc: Global,
@@ -658,7 +659,7 @@ fn show_paragraph(
     put_paragraph(laid, wanted, levels, marks)
 }
 
-/// Stores information about a paragraph, and the arrays that `wanted` selects.
+/// Stores information about a paragraph, and writes the arrays that `wanted` selects.
 #[unsafe(no_mangle)]
 pub extern "C" fn hordguli_core_paragraph(
     alloc: Global,

@@ -94,7 +94,7 @@ fn base_of(bits: u32) -> Base
     }
 }
 
-// Returns whether the bits do not combine two base directions, and no bit above 26 is set.
+// Returns whether no bit above 26 is set, and the bits do not combine two base directions.
 fn names_direction(bits: u32) -> bool
     ensures { result ≡ names_direction bits }
 {
@@ -103,8 +103,8 @@ fn names_direction(bits: u32) -> bool
         && bits < UNKNOWN
 }
 
-/// Returns the base direction, or `None` if a bit is set that the call does not accept or the bits name two
-/// directions.
+/// Returns the base direction, or `None` if a bit that the call does not accept is set, or if the bits
+/// combine two directions.
 pub fn direction_of(bits: u32) -> Option<Base>
     ensures { result ≡ direction_of bits }
 {
@@ -133,8 +133,8 @@ fn low_bits_of(bits: u32) -> Option<u32>
     }
 }
 
-/// Returns whether breaks inside numbers are disabled, or `None` if a bit is set that the call does not
-/// accept.
+/// Returns whether breaks inside numbers are disabled, or `None` if a bit that the call does not accept is
+/// set.
 pub fn tailoring_of(bits: u32) -> Option<bool>
     ensures { result ≡ tailoring_of bits }
 {
@@ -153,7 +153,7 @@ fn tailoring_in(bits: u32) -> Option<bool>
     }
 }
 
-/// Returns the options of a row, or `None` if a bit is set that the call does not accept.
+/// Returns the options of a row, or `None` if a bit that the call does not accept is set.
 pub fn row_options_of(bits: u32) -> Option<Options>
     ensures { result ≡ row_options_of bits }
 {
@@ -170,7 +170,8 @@ fn row_options_in(bits: u32) -> Option<Options>
     }
 }
 
-/// Returns the options of a session, or `None` if a bit is unknown or the bits name two directions.
+/// Returns the options of a session, or `None` if an unknown or reserved bit is set, or if the bits combine
+/// two directions.
 pub fn options_of(bits: u32) -> Option<Options>
     ensures { result ≡ options_of bits }
 {
@@ -189,7 +190,7 @@ pub fn options_of(bits: u32) -> Option<Options>
     }
 }
 
-/// Returns what to print for each line, or `None` if a bit is unknown.
+/// Returns what to print for each line, or `None` if an unknown bit is set.
 pub fn print_of(bits: u32) -> Option<Print>
     ensures { result ≡ print_of bits }
 {
@@ -216,7 +217,7 @@ pub struct PageForm {
     pub print: Print,
 }
 
-/// Returns how a text is laid out and printed, or `None` if a bit is unknown.
+/// Returns how a text is laid out and printed, or `None` if the options or the print flags are refused.
 pub fn page_form_of(options: u32, width: u16, print: u32) -> Option<PageForm>
     ensures { result ≡ page_form_of options width print }
 {

@@ -1,4 +1,4 @@
-//! A box as its raw pointer and its allocator.
+//! A box, taken apart into its raw pointer and its allocator.
 ghost use Rattle.std.specs.Prelude.{◌≡◌};
 ghost use Rattle.std.specs.Box.Ownership.{box_owns};
 

@@ -21,10 +21,10 @@ use breaks::{LineRule, Reason, reasons};
 use std::alloc::{AllocError, Global};
 use ucd::{BidiClass, LineClass, Tables};
 
-// The value of a position that does not exist.
+// The number that is stored for a position that does not exist.
 const NO_POSITION: usize = 0xFFFF_FFFF;
 
-// The value of a class that does not exist.
+// The number that is stored for a class that does not exist.
 const NO_CLASS: u8 = 0xFF;
 
 /// How the rules determine the level of a character (`hordguli_reason` in C).

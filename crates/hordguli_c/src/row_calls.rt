@@ -1,4 +1,4 @@
-//! Functions on a row that the caller has chosen: L1 to L4, from the levels of its paragraph.
+//! Functions that apply L1 to L4 to a row that the caller has chosen, given its levels from the paragraph.
 ghost use Rattle.std.specs.Prelude.{◌≡◌, ◌<◌, ◌≤◌, ℕ, List, Option, length, true, All};
 ghost use Rattle.std.specs.Prelude.{IfErr, IfOk, IsFalse, IsTrue, OnErr, OnOk};
 ghost use Rattle.std.specs.Char.{IsScalar};
@@ -31,8 +31,8 @@ use std::alloc::{AllocError, Global};
 use ucd::{Tables, TextClasses};
 
 /// States, as a theorem, that a line of a paragraph equals the row of its characters. All characters of the
-/// line must be shown. With `reorder_clusters`, the line must have the same clusters as its characters have
-/// alone. Costs nothing at run time.
+/// line must be shown. With `reorder_clusters`, the line's clusters must be those that its characters form as
+/// a text of their own. Costs nothing at run time.
 pub fn row_is_line()
     ensures { (tables : Tables) (options : Options) (margin : Option ℕ) (base : ℕ) (text levels : List ℕ)
         (infos : List CharInfo) (start stop : ℕ)
@@ -65,7 +65,7 @@ impl Drop for LaidRow {
     }
 }
 
-// Returns whether no level is above the highest level of a character.
+// Returns whether no level is above `MOST_LEVEL`.
 fn are_levels(levels: &[u8]) -> bool
     ensures yes { IsTrue result → All (λ level. level ≤ 126) levels.now }
     ensures no { IsFalse result → ¬ All (λ level. level ≤ 126) levels.now }

@@ -20,7 +20,7 @@ pub struct RunOut {
 fn run_count(levels: &[u8]) -> usize
     ensures { result ≡ length (runs_out levels.now) }
 {
-    // The number of runs is at most the number of characters, which is bounded as a slice's length.
+    // The number of runs is at most the number of characters, and the length of a slice is bounded.
     let _len = levels.len();
     let mut count = 0;
     for _run in level_runs(levels) {

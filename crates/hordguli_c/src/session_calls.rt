@@ -137,7 +137,7 @@ pub extern "C" fn hordguli_core_session_open_measured(
     )
 }
 
-// Opens a session on a text at a width of either kind.
+// Opens a session on a text, at a width in columns or in the caller's unit.
 fn open_session(
     alloc: Global,
     session: &mut SessionHandle,
@@ -379,7 +379,7 @@ pub extern "C" fn hordguli_core_set_advances(
     with_object!(session, alloc, mut object, set_advances(&mut object, pos, advances, damage))
 }
 
-/// The size of a session (`hordguli_counts` in C).
+/// The numbers of characters, lines and paragraphs of a session, and its width (`hordguli_counts` in C).
 #[repr(C)]
 #[derive(Clone, Copy)]
 pub struct CountsOut {
@@ -405,7 +405,7 @@ fn counts_of(session: &SessionObject) -> CountsOut
     }
 }
 
-/// Stores the size of a session.
+/// Stores the numbers of characters, lines and paragraphs of a session, and its width.
 #[unsafe(no_mangle)]
 pub extern "C" fn hordguli_core_session_counts(
     alloc: Global,

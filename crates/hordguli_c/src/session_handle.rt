@@ -11,7 +11,7 @@ use std::mem::replace;
 use std::ptr::null_mut;
 use store::TreeStore;
 
-/// The object at the address.
+/// The session at the address that a handle holds.
 pub type SessionObject = Session<TreeStore<Kept>>;
 
 /// A handle of a session. Only `of_raw` and `into_raw` use its pointer, and `empty` makes a handle without an
@@ -54,7 +54,7 @@ impl SessionHandle {
         }
     }
 
-    /// Stores an object or `None`, and returns the previous object, if there was one.
+    /// Stores an object or `None`, and returns the previous object, or `None` if there was none.
     pub fn swap(
         &mut self,
         alloc: Global,

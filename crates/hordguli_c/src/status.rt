@@ -24,7 +24,7 @@ pub enum Status {
     NotMeasured = 16,
 }
 
-/// Returns the number of a status in C.
+/// Returns the number for a status in C.
 #[tactic(auto, unfolding(crate::specs::Statuses::status_of))]
 pub fn number_of(status: Status) -> u32
     ensures status { status_of result ≡ status }

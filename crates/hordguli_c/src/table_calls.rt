@@ -63,7 +63,7 @@ fn cause_number(cause: Cause) -> usize
     }
 }
 
-// Stores a fault, and returns its status.
+// Returns the status of a fault, and stores the fault unless an allocation failed.
 fn tell(fault: TableFault, out: &mut TableFaultOut) -> Status
     ensures { TellsFault fault.cause fault result out.old out.new }
 {
@@ -97,7 +97,7 @@ fn image_cause_number(fault: ImageFault) -> usize
     }
 }
 
-// Stores a fault of an image, and returns its status.
+// Returns the status of a fault of an image, and stores the fault unless an allocation failed.
 fn tell_image_fault(fault: ImageFault, out: &mut TableFaultOut) -> Status
     ensures { TellsImageFault fault result out.old out.new }
 {
@@ -145,7 +145,7 @@ fn read_into(
     }
 }
 
-/// Opens tables of a version from the contents of its files, each in its own slice.
+/// Opens tables of a Unicode version from the contents of its files, each of which is passed as a slice.
 #[unsafe(no_mangle)]
 pub extern "C" fn hordguli_core_tables_read_version(
     alloc: Global,

@@ -53,7 +53,7 @@ impl TablesHandle {
         }
     }
 
-    /// Stores an object or `None`, and returns the previous object, if there was one.
+    /// Stores an object or `None`, and returns the previous object, or `None` if there was none.
     pub fn swap(
         &mut self,
         alloc: Global,

@@ -19,7 +19,8 @@ use lines::char_count;
 use simdutf8::compat::from_utf8;
 use std::alloc::Global;
 
-/// Copies the printed lines of a text to an array as UTF-8, if they fit.
+/// Copies the printed lines of a text as UTF-8 to an array if they fit. Stores the number of bytes in either
+/// case.
 #[unsafe(no_mangle)]
 pub extern "C" fn hordguli_core_layout(
     alloc: Global,
@@ -74,7 +75,7 @@ fn valid_len(bytes: &[u8]) -> usize
     error.valid_up_to()
 }
 
-/// Stores the length of the longest valid prefix of UTF-8 text.
+/// Stores the length in bytes of the longest prefix that is valid UTF-8.
 #[unsafe(no_mangle)]
 pub extern "C" fn hordguli_core_valid_utf8(bytes: &[u8], valid: &mut usize) -> u32
     ensures status { Returns (λ status. status ≡ Ok) result }
@@ -107,12 +108,12 @@ fn put_decoded_if(wanted: bool, text: &str, len: usize, array: &mut [u32])
     }
 }
 
-// Stores the offset of each character of a text in an array of the same length.
+// Writes the offset of each character of a text to an array that has one element for each character.
 fn put_each_offset(text: &str, array: &mut [usize])
     requires { length array.old ≡ length (chars text.now) }
     ensures { array.new ≡ char_offsets (chars text.now) }
 {
-    // Each offset is less than the number of bytes, which is bounded as a slice's length.
+    // Each offset is less than the number of bytes, and the length of a slice is bounded.
     let _bytes = text.len();
     let mut k = 0;
     let mut offset = 0;
@@ -123,7 +124,7 @@ fn put_each_offset(text: &str, array: &mut [usize])
     }
 }
 
-// Stores the offset of each character of a text at the front of an array, if the array is `wanted`.
+// Writes the offset of each character of a text to the front of an array, if the array is `wanted`.
 fn put_offsets_if(wanted: bool, text: &str, len: usize, array: &mut [usize])
     requires len { len ≡ length (chars text.now) }
     requires room { has_room wanted len (length array.old) ≡ true }
@@ -159,7 +160,7 @@ fn put_decoded(
     Status::Ok
 }
 
-/// Stores the number of characters in UTF-8 text, and the arrays that `wanted` selects.
+/// Stores the number of characters in UTF-8 text, and writes the arrays that `wanted` selects.
 #[unsafe(no_mangle)]
 pub extern "C" fn hordguli_core_decode(
     bytes: &[u8],

@@ -19,14 +19,14 @@ unfoldable pub levels_before : List ℕ → List ℕ → ℕ → List ℕ
 levels_before types brackets asked =
     paragraph_levels bracket_by (brackets_of (length types) brackets) (map class_of types) (base_in types asked)
 
--- `answer` is the greatest level before L1 plus one. `direction` is the direction of the base level,
+-- `answer` is one more than the greatest level before L1. `direction` is the direction of the base level,
 -- whichever direction was requested. `levels` are the levels after L1, with the paragraph as one line.
 pub record AreLevels (types brackets : List ℕ) (asked answer direction : ℕ) (levels : List ℕ) : Type 0 where
   pub answer_is : answer ≡ suc (highest (levels_before types brackets asked))
   pub direction_is : direction ≡ direction_of (base_in types asked)
   pub levels_are : levels ≡ line_levels (base_in types asked) (map class_of types) (levels_before types brackets asked)
 
--- the direction of the first strong character, or ON
+-- the direction that a first strong character with this level has, or ON if there is no such character
 abbrev pub first_direction : Option ℕ → ℕ
 first_direction (Some level) = direction_of level
 first_direction None = 64

@@ -13,12 +13,12 @@ asks_marks flags = flags / 2 % 2 == 1
 abbrev pub reordered : ℕ → List ℕ → List ℕ → List ℕ
 reordered off vtol old = take off old ++ map (slice_index (drop off old)) vtol
 
--- an array after reordering, if its length is `len`; any other array is unchanged
+-- an array after reordering; an array whose length is not `len` is unchanged
 abbrev pub reordered_if : ℕ → ℕ → List ℕ → List ℕ → List ℕ
 reordered_if len off vtol old = if length old == len then reordered off vtol old else old
 
--- The line after L1 (with the level of the direction), L2 and, if the flags request it, L3. The result is the line's
--- greatest level plus one.
+-- The line after L1 (with the level of the direction), L2 and, if the flags request it, L3. The result is one
+-- more than the line's greatest level.
 module _ (flags : ℕ) (types : List ℕ) (off direction : ℕ) (old : List ℕ) where
   abbrev pub line_after : List ℕ
   line_after = line_levels (direction % 2) (map class_of (drop off types)) (drop off old)

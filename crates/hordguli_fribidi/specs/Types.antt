@@ -7,7 +7,7 @@ use Rattle.ucd.specs.declared.bracket.Bracket.{Bracket}
 use Rattle.bidi.specs.declared.base.Base.{Base}
 use Rattle.bidi.specs.declared.base.Base.TheVariants.{Rtl, Ltr, WeakRtl, WeakLtr}
 
--- FriBidi's number of each class
+-- FriBidi's number for each class
 abbrev pub type_of : BidiClass → ℕ
 type_of L = 272
 type_of R = 273
@@ -37,7 +37,7 @@ type_of PDI = 32864
 abbrev pub classes : List BidiClass
 classes = L ∷ R ∷ AL ∷ EN ∷ ES ∷ ET ∷ AN ∷ CS ∷ NSM ∷ BN ∷ B ∷ S ∷ WS ∷ ON ∷ LRE ∷ LRO ∷ RLE ∷ RLO ∷ PDF ∷ LRI ∷ RLI ∷ FSI ∷ PDI ∷ []
 
--- the numbers that have names: the numbers of the classes, of WLTR and WRTL, and of FriBidi's sentinel
+-- the numbers that have names in FriBidi: those of the classes, of WLTR and WRTL, and of its sentinel
 abbrev pub named : List ℕ
 named = map type_of classes ++ 32 ∷ 33 ∷ 128 ∷ []
 

@@ -45,7 +45,7 @@ fn type_past(c: u32, pages: &[u32; 65_536]) -> u32
     type_in(pages, 0, c)
 }
 
-/// Writes the types of the code points of a string, if the array has the string's length.
+/// Writes the types of the code points of a string, or changes nothing if the array has another length.
 #[unsafe(no_mangle)]
 pub extern "C" fn hordguli_fribidi_core_types(
     index: &[u8; 4352],
@@ -60,7 +60,7 @@ pub extern "C" fn hordguli_fribidi_core_types(
     }
 }
 
-// Writes four types at a time, as long as the pages of all four are in the index.
+// Writes the types: four at a time as long as the pages of all four are in the index, and then one at a time.
 fn put_types(index: &[u8; 4352], pages: &[u32; 65_536], characters: &[u32], types: &mut [u32])
     requires { length types.old ≡ length characters.now }
     ensures { types.new ≡ map (type_at index.now pages.now) characters.now }
@@ -179,7 +179,7 @@ fn put_mirror(c: u32, mirror: u32, mirrored: &mut u32) -> u32
     u32::from(mirror != 0)
 }
 
-/// Writes the brackets of the code points of a string, if the arrays have the string's length. A character
+/// Writes the brackets of the code points of a string, or changes nothing if the lengths differ. A character
 /// whose type is not ON has no bracket.
 #[unsafe(no_mangle)]
 pub extern "C" fn hordguli_fribidi_core_brackets(

@@ -81,7 +81,7 @@ fn find_levels(
     Ok(level)
 }
 
-// Returns the highest level plus one.
+// Returns one more than the highest level.
 fn answer(levels: &[u8]) -> u32
     ensures { result ≡ suc (highest levels.now) }
 {
@@ -99,10 +99,11 @@ fn put_levels(types: &[u32], base: u8, found: &[u8], levels: &mut [u8])
     reset_levels(&TypeClasses { types }, base, levels);
 }
 
-/// Writes the levels of a paragraph after L1, and its direction. Returns its highest level plus one.
+/// Writes the levels of a paragraph after L1, and its direction. Returns one more than its highest level
+/// before L1.
 ///
-/// Returns 0 and changes nothing if the arrays differ in length or an allocation fails. Allocates nothing for
-/// an empty paragraph.
+/// Returns 0 and changes nothing if `levels` and `types` differ in length or an allocation fails. Allocates
+/// nothing for an empty paragraph.
 #[unsafe(no_mangle)]
 pub extern "C" fn hordguli_fribidi_core_levels(
     alloc: Global,

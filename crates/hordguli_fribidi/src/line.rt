@@ -15,7 +15,7 @@ fn asks_marks(flags: u32) -> bool
     flags / 2 % 2 == 1
 }
 
-// Puts the items of an array, starting at `off`, into visual order, if the array ends where the line ends.
+// Puts the items of an array from `off` on into visual order, if the array ends where the line ends.
 fn arrange_if(types: &[u32], off: usize, levels: &[u8], marks: bool, array: &mut [u32])
     requires off { off ≤ length types.now }
     requires levels { length levels.now ≡ length types.now - off }
@@ -31,8 +31,9 @@ fn arrange_if(types: &[u32], off: usize, levels: &[u8], marks: bool, array: &mut
 }
 
 /// Reorders a line in place: applies L1 to its levels, and puts the line's part of the string and of the map
-/// into visual order. The string or the map may be missing. The arrays contain the paragraph up to the line's
-/// end. Returns the line's highest level plus one.
+/// into visual order. The string or the map may be missing: an array whose length is not that of `types` is
+/// unchanged. The arrays contain the paragraph up to the line's end. Returns one more than the line's highest
+/// level.
 ///
 /// Returns 0 and changes nothing if, and only if, `levels` and `types` differ in length or `off` is past
 /// their end.

@@ -109,7 +109,7 @@ pub fn base_of(number: u32) -> Base
     }
 }
 
-/// Returns the FriBidi number of the direction of a level.
+/// Returns the FriBidi number for the direction of a base level.
 pub fn direction_of(level: u8) -> u32
     ensures { result ≡ direction_of level }
 {

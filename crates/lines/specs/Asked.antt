@@ -12,7 +12,8 @@ use Rattle.lines.specs.declared.options.Options.{Options}
 use Rattle.lines.specs.declared.fill.Shown.{Shown}
 use Rattle.lines.specs.declared.printing.print.Print.{Print}
 
--- one line of a paragraph, and whether a grapheme cluster ends after each of its characters
+-- one line of a paragraph; `ends` says after which of its characters a grapheme cluster ends, and is empty if
+-- lines are not ordered by clusters
 module _ (tables : Tables) (options : Options) (base : ℕ) (is_first : Bool) (line : List ℕ) (ends : List Bool) where
   -- the visual line, given the columns of its shown part and its levels after L1
   abbrev pub visual_part : ℕ → List ℕ → Visual
@@ -33,7 +34,7 @@ module _ (tables : Tables) (options : Options) (base : ℕ) (is_first : Bool) (l
         chars = visual_chars tables levels (take (length levels) line) vtol;
       }
 
-  -- the visual line, given its shown part and the levels of the whole line before L1
+  -- the visual line, given the levels before L1 of the whole line, and how much of the line is shown
   abbrev pub visual_shown : List ℕ → Shown → Visual
   visual_shown old part = visual_part part.columns (take part.len (line_levels base (map (class_of tables) line) old))
 

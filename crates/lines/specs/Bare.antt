@@ -7,7 +7,7 @@ use Rattle.lines.specs.declared.char_info.CharInfo.{CharInfo}
 abbrev pub bare : CharInfo → CharInfo
 bare p = record p { ends_cluster = false }
 
--- whether two lists differ only in their cluster ends
+-- whether two lists are the same except for their cluster ends
 abbrev pub AreAlike : List CharInfo → List CharInfo → Type 0
 AreAlike xs ys = map bare xs ≡ map bare ys
 

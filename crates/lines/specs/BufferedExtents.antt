@@ -1,4 +1,4 @@
--- The line starts and shown parts of a paragraph at a width, in buffers that have enough capacity for each
+-- Buffers that hold the line starts and shown parts of a paragraph at a width, and have enough items for each
 -- line. No contract of an exported function uses this definition.
 use Rattle.std.specs.Prelude.{◌≡◌, ℕ, length, None}
 use Rattle.lines.specs.Buffers.{CanHold}

@@ -1,4 +1,4 @@
--- The lines that buffers hold, and the conditions for buffers to be long enough.
+-- The lines that buffers hold, and whether the buffers are long enough.
 use Rattle.std.specs.Prelude.{◌≡◌, ℕ, ◌*◌, ◌≤◌, List, length}
 use Rattle.lines.specs.Kept.{IsSound, lines_in}
 use Rattle.lines.specs.Layouts.{Filled}

@@ -8,7 +8,7 @@ use Rattle.lines.specs.Tabs.{is_tab}
 use Rattle.lines.specs.Visual.{Visual, is_measured}
 use Rattle.lines.specs.declared.printing.print.Print.{Print}
 
--- the line that names the base direction, which is RTL if the base level is odd and LTR otherwise
+-- the line `RTL` if the base level is odd, and the line `LTR` otherwise
 abbrev pub direction_line : ℕ → List ℕ
 direction_line base = if is_odd base then codes "RTL\n" else codes "LTR\n"
 
@@ -16,8 +16,8 @@ direction_line base = if is_odd base then codes "RTL\n" else codes "LTR\n"
 abbrev pub numbers_line : List ℕ → List ℕ
 numbers_line numbers = join_with_byte 32 (map decimal numbers) ++ codes "\n"
 
--- the spaces before a line that is narrower than the width, in a right-to-left paragraph; there are none with
--- `nopad` or in a measured paragraph
+-- the spaces that pad a line of a right-to-left paragraph to the width; none with `nopad`, or if the
+-- paragraph is measured
 abbrev pub padding : ℕ → Print → Visual → List ℕ
 padding width print visual =
     if is_odd visual.base && (not print.nopad && not (is_measured visual)) then replicate (width - visual.columns) 32 else []
@@ -30,7 +30,8 @@ ordered_chars print visual = if print.nomirror then map (slice_index visual.text
 abbrev pub cells : Visual → ℕ → ℕ → List ℕ
 cells visual c k = if is_tab visual.tab_width (slice_index visual.text k) then replicate (width_at visual k) 32 else c ∷ []
 
--- characters in visual order with spaces in place of tabs, given their positions in the line
+-- characters in visual order, with spaces in place of tabs; `vtol` holds the position in the line of each
+-- character
 abbrev pub expanded : Visual → List ℕ → List ℕ → List ℕ
 expanded visual (c ∷ chars) (k ∷ vtol) = cells visual c k ++ expanded visual chars vtol
 expanded visual chars vtol = []

@@ -67,8 +67,8 @@ abbrev pub infos : Tables → ℕ → List ℕ → List Mark → List Bool → L
 infos t tab_width (c ∷ text) (mark ∷ marks) (ends ∷ clusters) = info t tab_width c mark ends ∷ infos t tab_width text marks clusters
 infos t tab_width text marks clusters = []
 
--- the infos of a measured paragraph: their columns are replaced by the advances, which are in the caller's
--- unit, and by 0 for a character without an advance
+-- the infos of a measured paragraph: the columns of each character are replaced by its advance, which is in
+-- the caller's unit, or by 0 if it has none
 abbrev pub measured : List ℕ → List CharInfo → List CharInfo
 measured advances [] = []
 measured [] (p ∷ infos) = record p { columns = 0 } ∷ measured [] infos

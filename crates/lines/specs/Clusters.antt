@@ -15,7 +15,7 @@ use Rattle.unicode_segmentation.specs.Grapheme.{is_grapheme_break}
 use Rattle.unicode_segmentation.specs.Segments.{Rule}
 
 -- for each character of a text, whether the rule ends a segment, such as a cluster or a word, after the
--- character; `before` holds the characters before the text, nearest first
+-- character; `before` holds the characters before the text, in reverse order
 abbrev pub ends_after : Rule → List ℕ → List ℕ → List Bool
 ends_after rule before [] = []
 ends_after rule before (c ∷ text) = rule (c ∷ before) text ∷ ends_after rule (c ∷ before) text
@@ -31,11 +31,12 @@ abbrev pub after : Option ℕ → ℕ → ℕ
 after (Some k) other = k + 1
 after None other = other
 
--- where the cluster of character k starts: after the last cluster end before k
+-- where the cluster of character k starts: after the last character before k that ends a cluster, or at 0
 abbrev pub cluster_begin : List Bool → ℕ → ℕ
 cluster_begin ends k = after (greatest (ends_at ends) k) 0
 
--- where the cluster of character k ends: at the first cluster end at or after k
+-- where the cluster of character k ends: after the first character from k on that ends a cluster, or at the
+-- end of the text
 abbrev pub cluster_end : List Bool → ℕ → ℕ
 cluster_end ends k = after (least (ends_at ends) k (length ends - k)) (length ends)
 
@@ -44,11 +45,11 @@ cluster_end ends k = after (least (ends_at ends) k (length ends - k)) (length en
 abbrev pub ends_in : List Bool → ℕ → ℕ → List ℕ
 ends_in ends start len = filter (λ k. k == len || ends_at ends (start + k - 1)) (range_with_len 1 len)
 
--- the ends of one segment, given its bytes: true for its last character only
+-- for each character of a segment, whether the segment ends after it, given the segment's UTF-8 bytes
 abbrev pub ends_of : List ℕ → List Bool
 ends_of cluster = replicate (length (chars cluster) - 1) false ++ true ∷ []
 
--- whether a number is from `first` to `last`, inclusive
+-- whether a number is in the range from `first` to `last`, inclusive
 abbrev pub lies_in : ℕ → ℕ → ℕ → Bool
 lies_in first last c = nat_le first c && nat_le c last
 
@@ -85,8 +86,8 @@ may_end Other = true
 may_end SpacingMark = true
 may_end _ = false
 
--- whether no rule except GB9c joins a character of this class to a previous character that may end a cluster;
--- from such a character, no rule looks further back
+-- whether no rule except GB9c joins a character of this class to a previous character that may end a cluster,
+-- or looks back past the boundary between the two
 abbrev pub may_start : GraphemeClusterBreak → Bool
 may_start Extend = false
 may_start SpacingMark = false
@@ -111,6 +112,6 @@ is_split_point text k = can_split (slice_index_or text (k - 1) 0) (slice_index_o
 abbrev pub IsSplitPoint : List ℕ → ℕ → Type 0
 IsSplitPoint text k = (k ≡ 0) ⊎ ((k ≡ length text) ⊎ (is_split_point text k ≡ true))
 
--- whether character k is the only one between the nearest split points around it
+-- whether there are split points directly before and directly after character k
 abbrev pub IsAloneBetweenSplits : List ℕ → ℕ → Type 0
 IsAloneBetweenSplits text k = IsSplitPoint text k × IsSplitPoint text (k + 1)

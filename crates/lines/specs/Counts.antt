@@ -9,7 +9,7 @@ pub record LaysOutAll (n : ℕ) (old new : Counts) : Type 0 where
   pub filled : new.filled ≡ counted old.filled n
   pub written : new.written ≡ counted old.written n
 
--- at most n characters were analysed, filled into lines and written, because an allocation failed
+-- each counter increases by at most n, even if the call fails
 pub record LaysOutSome (n : ℕ) (old new : Counts) : Type 0 where
   pub analysed : RisesBy n old.analysed new.analysed
   pub filled : RisesBy n old.filled new.filled
@@ -26,7 +26,7 @@ pub record FillsSome (n : ℕ) (old new : Counts) : Type 0 where
   pub filled : RisesBy n old.filled new.filled
   pub written : RisesBy n old.written new.written
 
--- the line starts of n characters were found
+-- n characters were filled: their line starts were found, and no line was written
 pub record FindsAll (n : ℕ) (old new : Counts) : Type 0 where
   pub analysed : new.analysed ≡ old.analysed
   pub filled : new.filled ≡ counted old.filled n

@@ -29,7 +29,7 @@ from_pairs items = []
 abbrev pub unpacked : List ℕ → LineExtents
 unpacked items = record { starts = take (length items / 3) items; shown = from_pairs (drop (length items / 3) items) }
 
--- how many characters of the line from s to e are shown, and their columns
+-- how many characters of the line from s to e are shown, and their total columns
 abbrev pub shown_between : Option ℕ → List CharInfo → ℕ → ℕ → Shown
 shown_between margin infos s e =
     let part = shown margin (slice_range infos s e) in

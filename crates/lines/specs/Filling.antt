@@ -9,11 +9,11 @@ use Rattle.lines.specs.CharInfos.{advance, may_trail}
 use Rattle.lines.specs.declared.char_info.CharInfo.{CharInfo}
 use Rattle.lines.specs.declared.char_info.Trailing.TheVariants.{No}
 
--- the columns of the first characters of a line
+-- the total columns of the characters at the start of a line
 abbrev pub columns : List CharInfo → ℕ
 columns piece = fold advance 0 piece
 
--- The tail is the longest suffix of characters that may all be in a tail.
+-- whether a character may be in a tail; the tail of a line is the longest suffix of such characters
 abbrev pub trails : CharInfo → Bool
 trails p = may_trail p.trailing
 
@@ -45,7 +45,7 @@ nothing = record { columns = 0; trailing = No; mark = Never; ends_cluster = fals
 abbrev pub place_at : List CharInfo → ℕ → CharInfo
 place_at rest k = slice_index_or rest k nothing
 
--- the first of two results that is not `None`
+-- the first result, or the second one if the first is `None`
 abbrev pub or_else : Option ℕ → Option ℕ → Option ℕ
 or_else (Some k) other = Some k
 or_else None other = other

@@ -34,7 +34,7 @@ pub record IsSound (starts : List ℕ) (shown : List Shown) (levels maps chars :
   pub places : All (λ line. AreWithin (length line.levels) line.vtol) (lines_in starts shown levels maps chars)
   pub within : (k : ℕ) → k < length starts → slice_index starts k + (slice_index_or shown k (record { len = 0; columns = 0 })).len ≤ length levels
 
--- each line starts before the next one, and before n, the end of the paragraph
+-- the line starts increase, and each is below n, the length of the paragraph
 pub record AreStarts (n : ℕ) (starts : List ℕ) : Type 0 where
   pub below : (k : ℕ) → k < length starts → slice_index starts k < n
   pub rising : (k : ℕ) → k + 1 < length starts → slice_index starts k < slice_index starts (k + 1)

@@ -38,8 +38,8 @@ with_advances rules advances = record rules { advances = advances }
 abbrev pub HaveRoom : Option (List ℕ) → Type 0
 HaveRoom advances = IfSome advances (λ list. sum list < 2 ^ 32)
 
--- a paragraph: its characters, advances if it is measured, base level, tab width, levels, break marks, cluster ends if
--- its lines are ordered by clusters, and lines
+-- the layout of a paragraph; `advances` is `None` if it is not measured, and `ends` is empty if its lines are
+-- not ordered by clusters
 pub record Layout : Type 0 where
   pub text : List ℕ
   pub advances : Option (List ℕ)
@@ -58,7 +58,7 @@ lines_of rules width text =
     let infos = infos_of rules.tables rules.options rules.advances text in
     lines_from rules.tables rules.options (margin_of rules.options width) (base_of rules text) text (levels_of rules.tables text rules.options.base) infos (line_starts_of rules.options.nobreak width infos)
 
--- the fresh layout of a paragraph
+-- the fresh layout of a paragraph: the one that follows from its text, the rules and the width alone
 abbrev pub layout_of : Rules → ℕ → List ℕ → Layout
 layout_of rules width text = record {
   text = text;
@@ -129,8 +129,8 @@ pub record AreLinesOf (rules : Rules) (text : List ℕ) (fill : Filled) : Type 0
   pub width : ℕ
   pub from_scratch : fill ≡ fill_of rules width text
 
--- A layout and a fill exchange their lines. If both were made with the same rules, each one now has the lines
--- for the width at which the other one was made.
+-- A layout and a fill exchange their lines. If both were made from the same text with the same rules, each
+-- one now has the lines for the width of the other one.
 pub record Exchanges (old new : Layout) (fill_old fill_new : Filled) : Type 0 where
   pub put : new ≡ record old { lines = fill_old.lines }
   pub taken : fill_new ≡ record { lines = old.lines; len = length old.text }
@@ -138,8 +138,8 @@ pub record Exchanges (old new : Layout) (fill_old fill_new : Filled) : Type 0 wh
       → (new ≡ layout_of rules other old.text) × (fill_new ≡ fill_of rules width old.text)
   pub stay : (rules : Rules) → IsLaidOut rules old → AreLinesOf rules old.text fill_old → IsLaidOut rules new × AreLinesOf rules new.text fill_new
 
--- The visible state of an engine: its rules, and its counts of characters that were analysed, filled into
--- lines, and written in lines.
+-- The visible state of an engine: its rules, and how many characters were analysed, were filled into lines,
+-- and had their lines written.
 pub record EngineState : Type 0 where
   pub rules : Rules
   pub analysed : ℕ

@@ -27,9 +27,8 @@ pub record HaveSameForm (a b : Visual) : Type 0 where
   pub columns : a.columns ≡ b.columns
   pub measured : is_measured a ≡ is_measured b
 
--- In a paragraph of n characters, line k of the extents `a` and line m of `b` start at the same position, end
--- at the same position, and have shown parts of the same length and columns. Either both or neither are the
--- first line.
+-- In a paragraph of n characters, line k of `a` and line m of `b` have the same start, the same end, and
+-- shown parts of the same length and columns. Either both lines are the first one, or neither is.
 pub record HaveSamePlace (n : ℕ) (a b : LineExtents) (k m : ℕ) : Type 0 where
   pub is_first : (k == 0) ≡ (m == 0)
   pub start : slice_index a.starts k ≡ slice_index b.starts m

@@ -1,4 +1,4 @@
--- Properties of the order of each visual line.
+-- Properties of the visual order of a line's characters.
 use Rattle.std.specs.Prelude.{◌≡◌, ℕ, suc, ◌+◌, ◌<◌, ◌≤◌, Bool, false, true, ◌⊎◌, List, length, slice_index, All, None}
 use Rattle.reorder.specs.Order.{is_odd, AreInverse}
 use Rattle.ucd.specs.Classes.{is_mark}
@@ -9,7 +9,8 @@ use Rattle.lines.specs.Columns.{columns_between, columns_left}
 use Rattle.lines.specs.Layouts.{Rules}
 use Rattle.lines.specs.Visual.{Visual}
 
--- whether the lists of a line have an item for each shown character, and its position maps are inverse
+-- whether the lists of a line have an item for each shown character, and its position maps are inverses of
+-- each other
 pub record IsOrdered (line : Visual) : Type 0 where
   pub text : length line.text ≡ length line.levels
   pub vtol : length line.vtol ≡ length line.levels
@@ -17,7 +18,8 @@ pub record IsOrdered (line : Visual) : Type 0 where
   pub inverse : AreInverse (length line.levels) line.vtol line.ltov
   pub within : length line.levels ≤ line.len
 
--- whether the characters of class NSM stay where L2 puts them, or occupy no columns in a paragraph that is not measured
+-- whether marks (class NSM) stay where L2 puts them, or the paragraph is not measured and its marks occupy no
+-- columns
 abbrev pub MarksStay : Rules → List ℕ → Type 0
 MarksStay rules text =
     (rules.options.reordernsm ≡ false) ⊎ ((rules.advances ≡ None) × All (λ c. is_mark (class_of rules.tables c) ≡ true → columns_of c ≡ 0) text)
@@ -39,9 +41,9 @@ pub record RunsAdjoin (line : Visual) : Type 0 where
   pub odd : (j k : ℕ) → AreInRun line j k → is_odd (slice_index line.levels j) ≡ true
       → columns_left line (slice_index line.ltov k + 1) + columns_between line j k ≡ columns_left line (slice_index line.ltov j + 1)
 
--- Whether characters are adjacent on the line, in logical order from left to right. In a level run at an even
--- level, all characters are. At an odd level, the characters of each cluster are. `ends` says where the
--- clusters of the line's paragraph end. The line starts at `start`.
+-- Whether the characters of each level run at an even level are adjacent, in logical order from left to
+-- right. In a level run at an odd level, the same holds for the characters of each cluster. `ends` says after
+-- which characters of the paragraph a cluster ends. The line starts at position `start` of the paragraph.
 pub record ClustersAdjoin (line : Visual) (ends : List Bool) (start : ℕ) : Type 0 where
   pub even : (j k : ℕ) → AreInRun line j k → is_odd (slice_index line.levels j) ≡ false
       → columns_left line (slice_index line.ltov k) ≡ columns_left line (slice_index line.ltov j) + columns_between line j k

@@ -24,15 +24,17 @@ use Rattle.lines.specs.declared.paragraph.Text.{Text}
 abbrev pub rules_in : LentRules → Rules
 rules_in rules = unmeasured rules.tables.now rules.options
 
--- whether the looked-up properties of a text are those of its characters
+-- whether `properties` holds the properties of the text's characters
 abbrev pub IsLookedUp : Text → Type 0
 IsLookedUp text = text.properties.now ≡ map (properties_of text.rules.tables.now) text.characters.now
 
--- whether a paragraph's cluster ends are known, if its lines are ordered by clusters
+-- whether `ends` holds the paragraph's cluster ends if its lines are ordered by clusters, and is empty
+-- otherwise
 abbrev pub HasEnds : Text → Type 0
 HasEnds text = text.ends.now ≡ ends_by text.rules.options text.characters.now
 
--- a text of at most PARAGRAPH_LIMIT characters, with its base level, its cluster ends and the levels of its characters before L1
+-- whether the properties, cluster ends and base level of a text are those of its characters, and `levels` are
+-- their levels before L1; the text has at most `PARAGRAPH_LIMIT` characters
 pub record IsResolved (text : Text) (levels : List ℕ) : Type 0 where
   pub looked_up : IsLookedUp text
   pub ends : HasEnds text
@@ -49,7 +51,8 @@ advances_in paragraph = option_map (λ advances. advances.now) paragraph.advance
 abbrev pub rules_by : Paragraph → Rules
 rules_by paragraph = with_advances (rules_in paragraph.text.rules) (advances_in paragraph)
 
--- a paragraph with its base level, its levels before L1, its break marks and, if it is measured, its advances
+-- whether the base level, the levels before L1 and the break marks of a paragraph follow from its text, and
+-- its advances, if any, add up to less than 2^32
 pub record IsPrepared (paragraph : Paragraph) : Type 0 where
   pub text : IsResolved paragraph.text paragraph.levels.now
   pub room : HaveRoom (advances_in paragraph)
@@ -63,7 +66,7 @@ lines_at advances text levels width =
     let infos = infos_of tables options advances text.characters.now in
     lines_from tables options (margin_of options width) text.base text.characters.now levels infos (line_starts_of options.nobreak width infos)
 
--- the visual line of a logical line, given the levels of its shown part after L1
+-- the visual line of a logical line, given the levels after L1 of its shown part
 abbrev pub shown_by : LogicalLine → List ℕ → Visual
 shown_by line levels =
     visual_part line.text.rules.tables.now line.text.rules.options line.text.base line.is_first line.text.characters.now line.text.ends.now line.shown.columns levels

@@ -1,4 +1,4 @@
--- The line that a part returned by a `Fill` describes.
+-- The line that a `Part` of a `Fill` describes.
 use Rattle.lines.specs.Visual.{Line}
 use Rattle.lines.specs.declared.fill.Part.{Part}
 

@@ -3,9 +3,9 @@ use Rattle.std.specs.Prelude.{◌≡◌, ℕ, suc, ◌+◌, ◌-◌, ◌<◌, �
 use Rattle.lines.specs.Filling.{cluster_ends_at, line_starts_of, may_end}
 use Rattle.lines.specs.declared.char_info.CharInfo.{CharInfo}
 
--- From each line start on, the line starts are the same as if the paragraph began there. So if a paragraph
--- has the same characters from its line start s on as another paragraph from its line start t on, the line
--- starts after s and after t are at the same distances from s and t.
+-- From each line start on, the line starts are the same as if the paragraph began there. So if two paragraphs
+-- have the same characters from their line starts s and t on, their next line starts are at the same
+-- distances from s and t.
 pub record StartsFollow (nobreak : Bool) (width : ℕ) (ps qs : List CharInfo) : Type 0 where
   pub alone : (i s : ℕ) → slice_get (line_starts_of nobreak width ps) i ≡ Some s
       → drop i (line_starts_of nobreak width ps) ≡ map (λ k. s + k) (line_starts_of nobreak width (drop s ps))
@@ -14,8 +14,8 @@ pub record StartsFollow (nobreak : Bool) (width : ℕ) (ps qs : List CharInfo) :
 
 -- Two paragraphs have the same first n characters, and s is the i-th line start of the first paragraph. The second
 -- paragraph has the same line starts up to s in each of these cases:
--- - from s on and before n, there is a break opportunity
--- - from s on and before n, a cluster ends, and the line before s does not end at a break opportunity
+-- - a line may end after one of the characters from s up to n
+-- - a cluster ends after one of these characters, and the line before s does not end at a break opportunity
 -- - two lines from s on end at or before n, and a third line follows
 --
 -- It is not enough that one line from s on ends before n. If this line does not end at a break opportunity, the line

@@ -6,7 +6,8 @@ use Rattle.ucd.specs.declared.bidi_class.BidiClass.{BidiClass}
 use Rattle.lines.specs.Clusters.{cluster_ends}
 use Rattle.lines.specs.declared.options.Options.{Options}
 
--- where the grapheme clusters of a paragraph end, if its lines are ordered by clusters
+-- whether a grapheme cluster ends after each character of a paragraph, or an empty list if lines are not
+-- ordered by clusters
 abbrev pub ends_by : Options → List ℕ → List Bool
 ends_by options text = if options.reorder_clusters then cluster_ends text else []
 

@@ -33,8 +33,8 @@ IsMeasured s = AreMeasured s.tab_width s.text.now s.is_measured s.advances.now s
 abbrev pub columns_on : Visual → ℕ → ℕ
 columns_on line place = width_at line (slice_index line.vtol place)
 
--- whether a visual position is in the line, the columns to its left have been counted, and the line has at most as many
--- characters as a paragraph may have
+-- whether a visual position is in the line or at its end, with the number of columns to its left, and the
+-- line has at most `PARAGRAPH_LIMIT` characters
 pub record IsReached (line : Visual) (at : Reached) : Type 0 where
   pub within : at.place ≤ length line.vtol
   pub column : at.column ≡ columns_left line at.place
@@ -42,14 +42,14 @@ pub record IsReached (line : Visual) (at : Reached) : Type 0 where
   pub limit : length line.vtol ≤ PARAGRAPH_LIMIT
 
 -- Whether all characters that occupy columns, from visual position `old` up to `new`, are selected if
--- `inside` is true, and none of them if `inside` is false. The character at `new`, if there is one, occupies
--- columns, and is selected only if `inside` is false.
+-- `inside` is true, and none of them is if `inside` is false. The character at `new`, if there is one,
+-- occupies columns, and is selected only if `inside` is false.
 pub record Passes (s : Selection) (inside : Bool) (old new : ℕ) : Type 0 where
   pub forward : old ≤ new
   pub passed : (place : ℕ) → old ≤ place → place < new → 0 < columns_on (selected_in s) place → is_selected (selected_in s) s.start s.end place ≡ inside
   pub takes : new < length s.vtol.now → 0 < columns_on (selected_in s) new
   pub stops : new < length s.vtol.now → is_selected (selected_in s) s.start s.end new ≡ not inside
 
--- whether no span that has been found touches a column
+-- whether a column, if it is covered, is the left edge of a span
 abbrev pub IsFresh : Selection → ℕ → Type 0
 IsFresh s column = is_left_edge (is_covered (selected_in s) s.start s.end) column ≡ is_covered (selected_in s) s.start s.end column

@@ -10,6 +10,7 @@ use Rattle.breaks.specs.Classes.{is_one_of}
 abbrev pub ends_line : Tables → ℕ → Bool
 ends_line t c = is_separator (class_of t c) || is_one_of (BK ∷ CR ∷ LF ∷ NL ∷ []) (line_class_of t c)
 
--- how many characters at the end of a line end it or its paragraph, given its last two characters
+-- the length of the separator at the end of a line, or 0 if there is none, given the line's last two
+-- characters
 abbrev pub separator_len : Tables → ℕ → ℕ → ℕ
 separator_len t before last = if ends_line t last then (if before == 13 && last == 10 then 2 else 1) else 0

@@ -12,8 +12,8 @@ use Rattle.lines.specs.Visual.{Line, end_of}
 use Rattle.lines.specs.declared.options.Options.{Options}
 use Rattle.lines.specs.declared.fill.Shown.{Shown}
 
--- whether the lists have the levels, position maps and characters of one line, given its shown part, its
--- cluster ends and its levels before L1, which are in `old`
+-- whether the lists hold the levels, position maps and characters of the shown part of a line; `old` holds
+-- the line's levels before L1
 pub record IsShown (tables : Tables) (options : Options) (base : ℕ) (ends : List Bool) (line old : List ℕ) (part : Shown) (levels ltov vtol chars : List ℕ) : Type 0 where
   pub within : part.len ≤ length line
   pub levels_are : take part.len levels ≡ take part.len (line_levels base (map (class_of tables) line) old)

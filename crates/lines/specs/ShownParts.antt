@@ -10,8 +10,7 @@ use Rattle.lines.specs.declared.options.Options.{Options}
 abbrev pub margin_of : Options → ℕ → Option ℕ
 margin_of options width = if options.show_spaces then Some width else None
 
--- whether a character is a space (line breaking class SP), and the line up to the end of the character is no
--- wider than the margin
+-- whether a character is a space (line breaking class SP) that ends within the margin
 abbrev pub is_space_within : ℕ → List CharInfo → ℕ → Bool
 is_space_within margin line k = is_space (place_at line k).trailing && nat_le (columns (take (suc k) line)) margin
 

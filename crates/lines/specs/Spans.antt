@@ -7,7 +7,7 @@ use Rattle.lines.specs.Columns.{columns_left, covering}
 use Rattle.lines.specs.Visual.{Visual}
 use Rattle.lines.specs.declared.spans.Span.{Span}
 
--- whether a span has a column
+-- whether a span contains a column
 abbrev pub has_column : ℕ → Span → Bool
 has_column column span = nat_le span.left column && nat_lt column span.right
 
@@ -43,7 +43,7 @@ module _ (is_covered : ℕ → Bool) (width : ℕ) where
     pub within : All (λ span. span.right ≤ width) spans
     pub apart : AreApart spans
 
--- a line, and a range of positions from its start
+-- a line, and the range of its positions from `start` up to `end`
 module _ (line : Visual) (start end : ℕ) where
   -- whether the character at a visual position is in the range
   abbrev pub is_selected : ℕ → Bool
@@ -53,7 +53,7 @@ module _ (line : Visual) (start end : ℕ) where
   abbrev pub is_covered : ℕ → Bool
   is_covered column = option_map_or is_selected (covering line column) false
 
-  -- the columns that the range covers, as maximal intervals: those that begin at `column` or to its right
+  -- the maximal intervals of columns covered by the range, except those that begin to the left of `column`
   unfoldable pub spans_from : ℕ → List Span
   spans_from column = intervals_from is_covered (columns_left line (length line.vtol)) column
 

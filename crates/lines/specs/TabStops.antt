@@ -6,12 +6,11 @@ use Rattle.lines.specs.Tabs.{is_tab}
 use Rattle.lines.specs.Visual.{Visual}
 use Rattle.lines.specs.Widths.{sizes_of}
 
--- the size of the shown character at a position; the size of a tab is the distance between its tab stops
+-- the size of the shown character at a position; the size of a tab is the distance between tab stops
 abbrev pub size_at : Visual → ℕ → ℕ
 size_at line k = slice_index (sizes_of line.tab_width line.advances line.text) k
 
--- whether the shown character at a position is a tab that moves to a tab stop; a tab with advance 0 has no
--- width
+-- whether the shown character at a position is a tab that moves to a tab stop; a tab of size 0 does not
 pub record IsTab (line : Visual) (k : ℕ) : Type 0 where
   pub within : k < length line.levels
   pub tab : is_tab line.tab_width (slice_index line.text k) ≡ true

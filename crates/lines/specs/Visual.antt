@@ -22,7 +22,8 @@ pub record Line : Type 0 where
   pub vtol : List ℕ
   pub chars : List ℕ
 
--- the lines of a paragraph, given the margin for spaces, its base level, its levels before L1, and the `CharInfo`s of its characters
+-- the lines of a paragraph, given the margin up to which spaces are shown, its base level, its levels before
+-- L1, and the `CharInfo`s of its characters
 module _ (tables : Tables) (options : Options) (margin : Option ℕ) (base : ℕ) (text levels : List ℕ) (infos : List CharInfo) where
   -- L1 is applied to the whole line from s to e, and L2, L3 and L4 to its shown part
   abbrev pub line_between : ℕ → ℕ → Line

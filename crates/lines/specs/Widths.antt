@@ -14,7 +14,8 @@ abbrev pub sizes_of : ℕ → Option (List ℕ) → List ℕ → List ℕ
 sizes_of tab_width None text = map (size_in tab_width) text
 sizes_of tab_width (Some advances) text = advances_on advances text
 
--- the width of a character that starts at a column: its size, but a tab moves to the next multiple of its size
+-- the width of a character that starts at a column: its size or, for a tab, the columns to the next multiple
+-- of its size
 abbrev pub width_from : ℕ → ℕ → ℕ → ℕ → ℕ
 width_from tab_width column c size = if is_tab tab_width c then to_stop size column else size
 

@@ -1,4 +1,4 @@
--- Where the segments between word boundaries end, according to the crate `unicode_segmentation` (UAX #29).
+-- Where the word boundaries of a text are, according to the crate `unicode_segmentation` (UAX #29).
 use Rattle.std.specs.Prelude.{ℕ, Bool, List, []}
 use Rattle.unicode_segmentation.specs.Word.{is_word_break}
 use Rattle.lines.specs.Clusters.{ends_after}

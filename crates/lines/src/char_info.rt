@@ -21,7 +21,8 @@ use breaks::{Mark, marks_are_as_many};
 use std::alloc::{AllocError, Global};
 use ucd::{LineClass, Properties, Tables};
 
-/// The role of a character in the tail of a line, which is the spaces and separators at the end of the line.
+/// The role of a character in the tail of a line. The tail consists of the spaces and separators at the end
+/// of the line.
 #[derive(Clone, Copy, Debug, PartialEq, Eq)]
 pub enum Trailing {
     /// The character is never in a tail.
@@ -94,7 +95,7 @@ impl CharInfo {
         }
     }
 
-    /// Returns the width of a line up to the end of the character, given the character's size and the width
+    /// Returns the width of a line up to the end of the character, given its size and the width of the line
     /// before it.
     pub(crate) fn advance(self, size: u32, before: usize) -> usize
         requires { before < 2 ^ 60 }
@@ -107,8 +108,8 @@ impl CharInfo {
         before + size as usize
     }
 
-    /// Returns whether the character is a space, and the line up to the end of the character is no wider than
-    /// the margin, given the character's size and the width before it.
+    /// Returns whether the character is a space that ends within the margin, given its size and the width of
+    /// the line before it.
     pub(crate) fn is_space_within(self, size: u32, before: u32, margin: u32) -> bool
         ensures { result ≡ (is_space self.trailing
             && nat_le (advance before (record self { columns = size })) margin) }
@@ -163,7 +164,7 @@ pub(crate) fn is_must(mark: Mark) -> bool
     mark == Mark::Must
 }
 
-/// A summary of some consecutive characters.
+/// The total columns of consecutive characters, and whether they contain a tab or a mandatory break.
 #[derive(Clone, Copy)]
 pub(crate) struct Sum {
     /// The total columns of the characters, if none of them is a tab that moves to a tab stop.
@@ -180,7 +181,7 @@ impl Sum {
     ghost use Rattle.lines.specs.Filling.{is_must};
     ghost use Rattle.lines.specs.declared.engine.TheConstants.{PARAGRAPH_LIMIT};
 
-    /// Returns a summary of some consecutive characters.
+    /// Adds up the columns of consecutive characters, and looks for tabs and mandatory breaks among them.
     #[inline(always)] // so that a group of known length needs no loop
     pub(crate) fn of(piece: &[CharInfo]) -> Sum
         requires { length piece.now ≤ PARAGRAPH_LIMIT }

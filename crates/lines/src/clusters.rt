@@ -34,8 +34,8 @@ impl ClusterBuffers {
         }
     }
 
-    /// Replaces the contents of `ends` with a flag for each character of a paragraph, which says whether a
-    /// grapheme cluster ends after the character.
+    /// Sets `ends` to a list that says, for each character of a paragraph, whether a grapheme cluster ends
+    /// after it.
     pub(crate) fn fill(&mut self, text: &[char], ends: &mut Vec<bool>) -> Result<(), AllocError>
         ensures { OnOk result (ends.new.items ≡ cluster_ends text.now) }
     {
@@ -65,8 +65,8 @@ pub fn cluster_ends(alloc: Global, text: &[char]) -> Result<Vec<bool>, AllocErro
     Ok(ends)
 }
 
-// Replaces the contents of `ends` with a flag for each character of a paragraph, which says whether a
-// grapheme cluster ends after the character. Overwrites `utf8` with the text.
+// Sets `ends` to a list that says, for each character of a paragraph, whether a grapheme cluster ends after
+// it. Overwrites `utf8` with the text.
 fn fill_cluster_ends(
     text: &[char],
     utf8: &mut String,
@@ -103,8 +103,8 @@ fn spell(text: &[char], utf8: &mut String) -> Result<(), AllocError>
 }
 
 /// Returns the start and the end of the grapheme cluster of character `k` of a paragraph. Finds only the
-/// clusters between the nearest two split points. Allocates only if another character is between these split
-/// points.
+/// clusters between the last split point at or before the character and the first one after it. Allocates
+/// only if another character is between these split points.
 pub fn cluster_of(alloc: Global, text: &[char], k: usize) -> Result<(usize, usize), AllocError>
     requires { k < length text.now }
     ensures start { IfOk result (λ found. found.0 ≡ cluster_begin (cluster_ends text.now) k) }
@@ -124,8 +124,9 @@ pub fn cluster_of(alloc: Global, text: &[char], k: usize) -> Result<(usize, usiz
     Ok((start + first, start + past))
 }
 
-/// Returns where the clusters of `len` characters from `start` on end, counted from `start`. The last of
-/// these ends is `len`. Finds only the clusters between the two split points around these characters.
+/// Returns the ends of the clusters in the `len` characters from `start` on, counted from `start`. The last
+/// of these ends is `len`. Finds only the clusters between the last split point at or before these characters
+/// and the first one after them.
 pub fn ends_in(
     alloc: Global,
     text: &[char],
@@ -141,7 +142,8 @@ pub fn ends_in(
     part_ends(alloc, &ends, start - first, len)
 }
 
-// Returns where the clusters of `len` characters from `start` on end, given where the text's clusters end.
+// Returns the ends of the clusters in the `len` characters from `start` on, given where the text's clusters
+// end.
 fn part_ends(
     alloc: Global,
     ends: &[bool],
@@ -160,8 +162,8 @@ fn part_ends(
     Ok(found)
 }
 
-/// Returns the start of the segment of character `k`, such as its cluster or word. `ends[i]` says whether a
-/// segment ends after character `i`.
+/// Returns the start of the segment that contains character `k`, such as a cluster or a word. `ends[i]` says
+/// whether a segment ends after character `i`.
 pub fn cluster_begin(ends: &[bool], k: usize) -> usize
     requires { k < length ends.now }
     ensures value { result ≡ cluster_begin ends.now k }
@@ -177,8 +179,8 @@ pub fn cluster_begin(ends: &[bool], k: usize) -> usize
     0
 }
 
-/// Returns the end of the segment of character `k`, such as its cluster or word. `ends[i]` says whether a
-/// segment ends after character `i`.
+/// Returns the end of the segment that contains character `k`, such as a cluster or a word. `ends[i]` says
+/// whether a segment ends after character `i`.
 pub fn cluster_end(ends: &[bool], k: usize) -> usize
     requires { k < length ends.now }
     ensures value { result ≡ cluster_end ends.now k }
@@ -195,7 +197,7 @@ pub fn cluster_end(ends: &[bool], k: usize) -> usize
     ends.len()
 }
 
-// Returns the nearest split point at or before character `k`.
+// Returns the last split point at or before character `k`.
 fn window_start(text: &[char], k: usize) -> usize
     requires { k < length text.now }
     ensures split { IsSplitPoint text.now result }
@@ -212,7 +214,7 @@ fn window_start(text: &[char], k: usize) -> usize
     0
 }
 
-// Returns the nearest split point after character `k`.
+// Returns the first split point after character `k`.
 fn window_end(text: &[char], k: usize) -> usize
     requires { k < length text.now }
     ensures split { IsSplitPoint text.now result }
@@ -230,8 +232,8 @@ fn window_end(text: &[char], k: usize) -> usize
     text.len()
 }
 
-// Returns whether the two characters around index `k` show that `k` is a split point: the clusters of the
-// text before `k` and of the text from `k` on are the clusters of the whole text.
+// Returns whether the characters before and after index `k` show that `k` is a split point. If so, the
+// clusters of the text before `k` and of the text from `k` on are the clusters of the whole text.
 fn is_split_point(text: &[char], k: usize) -> bool
     requires some { 0 < k }
     requires within { k < length text.now }
@@ -269,7 +271,7 @@ fn may_end(last: GraphemeClusterBreak) -> bool
 }
 
 // Returns whether no rule except GB9c joins a character of this class to the one before it, if that one may
-// end a cluster. No rule looks further back from such a character.
+// end a cluster. No rule except GB9c looks back past a boundary between two such characters.
 fn may_start(next: GraphemeClusterBreak) -> bool
     ensures { result ≡ may_start next }
 {

@@ -88,7 +88,7 @@ impl ColumnCache {
         sum + self.sum_of_each(rest)
     }
 
-    // Implements `sum` for a group of characters. Looks up no columns if all of them are known to be 1.
+    // Implements `sum` for a group of characters. Looks up no columns if each character is known to have one.
     #[inline(always)] // so that the loops over a group know its length
     fn sum_of_group(&mut self, group: &[char]) -> u32
         requires { length group.now ≡ AT_ONCE }
@@ -117,7 +117,8 @@ impl ColumnCache {
         sum
     }
 
-    // Finds the columns of a character that has no entry, and stores them in the character's entry.
+    // Finds the columns of a character that has no entry, and stores them in its entry if the cache has been
+    // prepared.
     #[inline(never)]
     fn look_up(&mut self, c: char) -> u8
         ensures { result ≡ columns_of c }

@@ -1,4 +1,4 @@
-//! Counts the characters of UTF-8 text without decoding them, which is several times faster.
+//! Counts the characters of UTF-8 text without decoding them; decoding would be several times slower.
 ghost use Rattle.std.specs.Prelude.{◌≡◌, ◌≤◌, length, count_by};
 ghost use Rattle.std.specs.Str.{chars};
 ghost use Rattle.lines.specs.Counting.{is_lead_byte};

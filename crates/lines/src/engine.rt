@@ -43,7 +43,7 @@ use ucd::Tables;
 /// The maximum number of characters in a paragraph.
 pub const PARAGRAPH_LIMIT: usize = 1_048_576;
 
-// The documentation states this number. Contracts refer to the constant.
+// Checks the number that the documentation states, since contracts refer to the constant.
 const _: () = prove!(PARAGRAPH_LIMIT == 1_048_576);
 
 /// Lays out paragraphs using its tables and options, and counts the work. The engine never lends its tables
@@ -204,8 +204,8 @@ impl Engine {
         if before == '\r' && last == '\n' { 2 } else { 1 }
     }
 
-    /// Returns the index of the first paragraph boundary in a text, or `None` if the text is empty or one
-    /// paragraph.
+    /// Returns the index of the first paragraph boundary in a text, or `None` if the text is empty or
+    /// consists of one paragraph.
     pub fn first_cut(&self, text: &[char]) -> Option<usize>
         ensures place { result ≡ first_cut (cut_by (rules_of self.now)) text.now }
         ensures paragraphs { SplitsAt (cut_by (rules_of self.now)) text.now result }
@@ -387,9 +387,9 @@ impl Engine {
         )
     }
 
-    /// Lays out a paragraph with other advances at a width, which must not be 0. Levels and break marks are
-    /// copied, and nothing is analysed. The advances must add up to less than 2^32, and the paragraph must
-    /// have been laid out with this engine's tables and options.
+    /// Lays out a paragraph with other advances at a width, which must not be 0. Copies the levels and break
+    /// marks, and analyses nothing. The advances must add up to less than 2^32, and the paragraph must have
+    /// been laid out with this engine's tables and options.
     pub fn remeasure(
         &mut self,
         alloc: Global,
@@ -424,7 +424,7 @@ impl Engine {
     }
 
     /// Writes the lines of one paragraph without keeping them. The width is in columns, and must not be 0. If
-    /// an allocation fails, writes nothing. Allocates nothing if `print` selects no lines.
+    /// an allocation fails, writes nothing. Allocates nothing if `print.skips_lines()` is true.
     pub fn write_paragraph<W: Sink>(
         &mut self,
         alloc: Global,
@@ -475,9 +475,9 @@ impl Engine {
         work.write(&rules, text, &form, &mut self.counts, writer)
     }
 
-    /// Writes the base direction of one paragraph of UTF-8 text, if `print.basedir` is set. `print` must
-    /// select no lines. Writes the same bytes as [`Engine::write_paragraph`] at any width, and counts the
-    /// same characters. Fails only if the sink fails.
+    /// Writes the base direction of one paragraph of UTF-8 text, if `print.basedir` is set.
+    /// `print.skips_lines()` must be true. Writes the same bytes as [`Engine::write_paragraph`] at any width,
+    /// and counts the same characters. Fails only if the sink fails.
     ///
     /// Allocates nothing. Reads each byte once to count the characters, but decodes only the characters up to
     /// the one that decides the direction, which is usually the first one.
@@ -546,7 +546,7 @@ impl Engine {
     /// Replaces the lines of a paragraph with those at another width, given the extents at that width.
     /// Afterwards, `extents` holds the extents of the old lines. The paragraph must have been laid out with
     /// this engine's tables and options. `scratch` must have capacity for the paragraph's characters, and
-    /// counts them. Allocates nothing.
+    /// adds them to its count of characters whose lines were written. Allocates nothing.
     pub fn reflow(&self, laid: &mut Laid, extents: &mut Extents, scratch: &mut ReflowScratch)
         requires laid { IsLaidOut (with_advances (rules_of self.now) laid.old.advances) laid.old }
         requires extents { (width : ℕ) × (extents.old
@@ -608,9 +608,9 @@ impl Engine {
         Ok(reasons)
     }
 
-    /// Returns the rule that decides the break mark after each character of one paragraph (UAX #14), and what
-    /// that rule read. The marks are those of `lay_out`. Counts nothing. Needs time and memory proportional
-    /// to the length of the text.
+    /// Returns the rule that decides the break mark after each character of one paragraph (UAX #14), with the
+    /// bases and classes around the position. The marks are those of `lay_out`. Counts nothing. Needs time
+    /// and memory proportional to the length of the text.
     pub fn break_reasons(&self, alloc: Global, text: &[char]) -> Result<Vec<Reason>, AllocError>
         ensures reasons { IfOk result (λ list. list.items ≡ reasons_of (rules_of self.now).tables
             (rules_of self.now).options.whole_numbers text.now) }

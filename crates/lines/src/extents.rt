@@ -77,8 +77,8 @@ impl Extents {
         self.items.extend_from_slice(&[0, shown.len, shown.columns])
     }
 
-    /// Finds where each line of a paragraph starts, and how much of it is shown. The ruler's sizes are the
-    /// advances, if the paragraph is measured. `infos` need not contain the cluster ends.
+    /// Finds where each line of a paragraph starts, and how much of it is shown. The ruler's sizes must be
+    /// the advances, or `None` if the paragraph is not measured. `infos` need not contain the cluster ends.
     pub(crate) fn find(
         &mut self,
         clusters: &mut ClusterBuffers,

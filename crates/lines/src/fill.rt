@@ -265,7 +265,8 @@ impl Fill {
     }
 }
 
-/// The characters of a paragraph, its advances and widths if measured, its base level and its tab width.
+/// A paragraph's text and the data that its lines share. If the paragraph is measured, `advances` and
+/// `widths` have an item for each character.
 #[derive(Clone, Copy)]
 pub(crate) struct LaidText<'a> {
     pub(crate) text: &'a [char],

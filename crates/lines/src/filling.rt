@@ -107,7 +107,7 @@ fn is_break(mark: Mark) -> bool
     mark != Mark::Never
 }
 
-// Returns whether a line may or must end after a character, or a cluster ends after it.
+// Returns whether a line may or must end, or a cluster ends, after a character.
 fn is_candidate(info: &CharInfo) -> bool
     ensures { result ≡ is_break info.now.mark || info.now.ends_cluster }
 {
@@ -144,7 +144,7 @@ fn first_end(rest: &[CharInfo]) -> usize
     rest.len() - 1
 }
 
-// Returns the index of the first line's last character.
+// Returns the index of the last character of the first line.
 fn line_end<S: Sizes>(rest: &[CharInfo], ruler: Ruler<S>) -> usize
     requires { (0 < length rest.now) × (length rest.now ≤ PARAGRAPH_LIMIT) }
     ensures end { result ≡ line_end ruler.width (sized (S.given ruler.sizes) rest.now) }
@@ -160,7 +160,8 @@ fn line_end<S: Sizes>(rest: &[CharInfo], ruler: Ruler<S>) -> usize
     }
 }
 
-// Returns the index of the last of the first `len` characters after which the line may end.
+// Returns the index of the last character, among the first `len`, after which the line may end, or `None` if
+// there is none.
 fn last_break(rest: &[CharInfo], len: usize) -> Option<usize>
     requires { len ≤ length rest.now }
     ensures { result ≡ greatest (may_end rest.now) len }
@@ -175,7 +176,8 @@ fn last_break(rest: &[CharInfo], len: usize) -> Option<usize>
     None
 }
 
-// Returns the index of the last of the first `len` characters after which a cluster ends.
+// Returns the index of the last character, among the first `len`, after which a cluster ends, or `None` if
+// there is none.
 fn last_cluster_end(rest: &[CharInfo], len: usize) -> Option<usize>
     requires { len ≤ length rest.now }
     ensures { result ≡ greatest (cluster_ends_at rest.now) len }
@@ -190,8 +192,8 @@ fn last_cluster_end(rest: &[CharInfo], len: usize) -> Option<usize>
     None
 }
 
-// Returns the largest number of characters with which the first line fits in the width. Stops after the first
-// mandatory break.
+// Returns the largest number of characters with which the first line fits in the width and does not go past
+// its first mandatory break.
 fn fitting_len<S: Sizes>(rest: &[CharInfo], ruler: Ruler<S>) -> usize
     requires { (0 < length rest.now) × (length rest.now ≤ PARAGRAPH_LIMIT) }
     ensures last { (test : ℕ → Bool)
@@ -212,7 +214,7 @@ fn fitting_groups<S: Sizes>(rest: &[CharInfo], ruler: Ruler<S>) -> (usize, usize
     let (sizes, width) = (ruler.sizes, ruler.width as usize);
     let mut columns = 0;
     let mut k = 0;
-    // Most characters have at least one column, so a group does not fit in less than `GROUP` columns.
+    // Most characters have at least one column, so a group rarely fits in fewer than `GROUP` columns.
     while k + GROUP <= rest.len() && columns + GROUP <= width && !is_must(rest[k].mark) {
         let Some(group) = sizes.group(rest, k) else {
             break;

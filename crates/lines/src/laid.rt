@@ -146,14 +146,15 @@ impl Laid {
         &self.marks
     }
 
-    /// Returns whether a grapheme cluster ends after each character, if lines are ordered by clusters.
+    /// Returns whether a grapheme cluster ends after each character, or an empty slice if lines are not
+    /// ordered by clusters.
     pub(crate) fn ends(&self) -> &[bool]
         ensures { result.now ≡ self.now.ends }
     {
         &self.ends
     }
 
-    /// Returns the advances, if the paragraph is measured.
+    /// Returns the advances, or `None` if the paragraph is not measured.
     pub fn advances(&self) -> Option<&[u32]>
         ensures advances { option_map (λ list. list.now) result ≡ self.now.advances }
         ensures len { IfSome result (λ list. length list.now ≡ length self.now.text) }
@@ -289,8 +290,8 @@ impl Laid {
         }
     }
 
-    // Overwrites the lines with those at another width, which `extents` describes. Afterwards, `extents`
-    // holds the extents of the old lines.
+    // Overwrites the lines with those that `extents` describes, which are the lines at another width.
+    // Afterwards, `extents` holds the extents of the old lines.
     pub(crate) fn reflow(
         &mut self,
         tables: &Tables,
@@ -413,8 +414,8 @@ impl Laid {
     ///
     /// Reads backward and forward from the character to the nearest places where a cluster ends regardless of
     /// other characters, such as before most letters and emoji. In the worst case, such as a paragraph of
-    /// flags, reads the whole paragraph. Allocates a copy of the characters between these two places if there
-    /// is more than one. Otherwise, cannot fail.
+    /// flags, reads the whole paragraph. Copies the characters between these two places, unless the character
+    /// is the only one there. Fails only if the allocation for this copy fails.
     pub fn cluster(
         &self,
         alloc: std::alloc::Global,
@@ -431,8 +432,8 @@ impl Laid {
         crate::clusters::cluster_of(alloc, &self.text, k)
     }
 
-    /// Returns where the grapheme clusters of `len` characters from `start` on end, counted from `start`. The
-    /// last of these ends is `len`, even if a cluster continues after it.
+    /// Returns the ends of the grapheme clusters in the `len` characters from `start` on, counted from
+    /// `start`. The last of these ends is `len`, even if a cluster continues after it.
     ///
     /// Reads the characters around `start` and `start + len` as `cluster` does, and the characters between
     /// them.
@@ -500,7 +501,7 @@ pub(crate) fn put_all_widths(
     put_each_width(text, tab_width, lines, advances, &mut rest[..text.len()]);
 }
 
-// Replaces `widths` with the widths of the shown characters of each line. Other items are unchanged.
+// Writes the widths of the shown characters of each line to `widths`. Other items are unchanged.
 fn put_each_width(text: &[char], tab_width: u8, lines: &Fill, advances: &[u32], widths: &mut [u32])
     requires limit { length text.now ≤ PARAGRAPH_LIMIT }
     requires advances { length advances.now ≡ length text.now }

@@ -51,7 +51,7 @@ pub fn runs_have_all_columns()
 {}
 
 /// States, as a theorem, that each line has a level and a position for each shown character, and that its
-/// position maps are inverse, under any rules and at any width. Costs nothing at run time.
+/// position maps are inverses of each other, under any rules and at any width. Costs nothing at run time.
 pub fn lines_are_ordered()
     ensures { (rules : Rules) (width : ℕ) (text : List ℕ)
         → All IsOrdered (visuals (layout_of rules width text)) }
@@ -94,9 +94,8 @@ pub fn later_lines_follow()
 {}
 
 /// States, as a theorem, which line starts a change leaves in place. Both paragraphs have the same first `n`
-/// characters. A line start and all earlier ones stay if there is a break opportunity between that start and
-/// the first changed character, or if two lines from that start on end before the changed character. Costs
-/// nothing at run time.
+/// characters. A line start and all earlier ones stay if the first changed character comes after a break
+/// opportunity past that start, or after the end of the next line. Costs nothing at run time.
 pub fn earlier_lines_stay()
     ensures { (nobreak : Bool) (width : ℕ) (before after : List CharInfo) (n : ℕ)
         → take n before ≡ take n after → StartsStay nobreak width before after n }

@@ -95,7 +95,8 @@ impl Extents {
     }
 
     // Returns whether line `k` has the same start, the same end and an equally large shown part as line `m`
-    // of other extents, in a paragraph of `len` characters. Either both or neither must be the first line.
+    // of other extents, in a paragraph of `len` characters. Returns `false` if only one of them is the first
+    // line.
     fn has_same_place(&self, k: usize, other: &Extents, m: usize, len: usize) -> bool
         requires k { k < length self.now.starts }
         requires m { m < length other.now.starts }

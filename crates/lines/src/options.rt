@@ -27,7 +27,7 @@ pub struct Options {
 }
 
 impl Default for Options {
-    // The options that a command without arguments uses.
+    // The options of the command when it is run without arguments.
     ghost is_default = { λ options. options
         ≡ record {
           base = WeakLtr;

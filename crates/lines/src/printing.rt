@@ -92,9 +92,8 @@ impl Workspace {
     }
 }
 
-// Returns whether `write_one_line` can write a paragraph. The paragraph must not be empty, and must be one
-// line because `nobreak` is set. Its shown part must not depend on columns, and its characters must not be
-// printed.
+// Returns whether `write_one_line` can write a paragraph: it is not empty, and is one line because `nobreak`
+// is set. In addition, its shown part does not depend on columns, and its characters are not printed.
 fn is_one_line(form: &Form<'_>, text: &Text<'_>) -> bool
     requires { IsLookedUp text.now }
     ensures nobreak { result ≡ true → text.now.rules.options.nobreak ≡ true }
@@ -166,7 +165,7 @@ fn write_one_line<W: Sink>(
 }
 
 // Finds where each line of a paragraph starts, and how much of it is shown. Grows the buffers in
-// `lines.visual` to the length of the paragraph. Uses `marks` as a buffer for its break marks.
+// `lines.visual` to the length of the paragraph. Uses `marks` as a buffer for the paragraph's break marks.
 fn fill_spans(
     clusters: &mut ClusterBuffers,
     text: &Text<'_>,
@@ -197,7 +196,7 @@ fn fill_spans(
         .find(clusters, text, infos, ruler, options, filled)
 }
 
-// Writes the lines of a paragraph, whose extents are in `lines`.
+// Writes the lines of a paragraph. `lines` holds their extents.
 fn write_lines<W: Sink>(
     writer: &mut W,
     form: &Form<'_>,

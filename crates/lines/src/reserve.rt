@@ -10,7 +10,7 @@ pub fn reserve<T>(list: &mut Vec<T>, len: usize) -> Result<(), AllocError>
     list.reserve_exact(len.saturating_sub(list.len()))
 }
 
-/// Ensures that the length of a list is at least `len`.
+/// Ensures that the length of a list is at least `len`, by appending copies of `item`.
 pub fn grow<T: Copy>(list: &mut Vec<T>, len: usize, item: T) -> Result<(), AllocError>
     ensures least { OnOk result (len ≤ length list.new.items) }
     ensures most { OnOk result (length list.new.items ≡ max (length list.old.items) len) }

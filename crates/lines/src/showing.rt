@@ -232,7 +232,7 @@ pub(crate) fn reset_line(properties: &[Properties], base: u8, levels: &mut [u8])
     false
 }
 
-// The number of levels that are tested together. If the number of levels is not a multiple of this, the last
+// The number of levels that are tested together. If the length of a list is not a multiple of it, the last
 // group overlaps the one before it, so that no levels have to be tested one by one.
 const AT_ONCE: usize = 16;
 
@@ -375,7 +375,8 @@ fn order_part(line: &Text<'_>, levels: &[u8], vtol: &mut [u32], ltov: &mut [u32]
     }
 }
 
-// Writes the logical position of each visual position of a line's shown part. The options must apply L3.
+// Writes the logical position of each visual position of a line's shown part. `reorder_clusters` or
+// `reordernsm` must be set.
 fn place_part(line: &Text<'_>, levels: &[u8], places: &mut [u32])
     requires line { IsLookedUp line.now }
     requires limit { length line.now.characters.now ≤ PARAGRAPH_LIMIT }

@@ -23,13 +23,13 @@ pub fn advances_fit(advances: &[u32]) -> bool
     sum < 1 << 32
 }
 
-/// The sizes of the characters of a paragraph from some character on. `infos` must start at the same
-/// character.
+/// The sizes of a paragraph's characters from some character on. The `infos` passed to the methods must start
+/// at the same character.
 pub(crate) trait Sizes: Copy {
     // The advances, if the paragraph is measured.
     ghost given: { Self → Option (List ℕ) };
 
-    // An upper bound on the total size of the first characters.
+    // An upper bound on the total size of the first characters, given how many there are.
     ghost most: { Self → ℕ → ℕ };
 
     /// Returns the sizes from character `start` on.
@@ -45,7 +45,7 @@ pub(crate) trait Sizes: Copy {
             ≡ record (place_at infos.now k) { columns = result } }
         ensures most { most self k + result ≤ most self (k + 1) };
 
-    /// Returns a summary of the `GROUP` characters from `k` on, or `None` if they must be read one by one.
+    /// Returns the `Sum` of the `GROUP` characters from `k` on, or `None` if they must be read one by one.
     fn group(self, infos: &[CharInfo], k: usize) -> Option<Sum>
         requires { k + GROUP ≤ length infos.now }
         ensures columns { IfSome result (λ group. group.has_tab ≡ false → (before : ℕ)
@@ -56,7 +56,7 @@ pub(crate) trait Sizes: Copy {
         ensures most { IfSome result (λ group. most self k + group.columns ≤ most self (k + GROUP)) };
 }
 
-/// The columns of the characters, which are stored in their infos.
+/// Columns, which are stored in the characters' infos.
 #[derive(Clone, Copy)]
 pub(crate) struct ByColumns;
 
@@ -112,7 +112,7 @@ impl<'a> Sizes for ByAdvances<'a> {
     }
 }
 
-/// The sizes of a paragraph's characters, and the width of its lines.
+/// The sizes of a paragraph's characters, and the maximum width of its lines.
 #[derive(Clone, Copy)]
 pub(crate) struct Ruler<S> {
     pub(crate) sizes: S,

@@ -41,7 +41,7 @@ impl<'a> Selection<'a> {
     ghost use Rattle.lines.specs.Measures.{known_or};
     ghost use Rattle.lines.specs.Widths.{widths_of};
 
-    // Returns the widths of the characters, if the line is measured.
+    // Returns the widths of the characters, or `None` if the line is not measured.
     fn known(&self) -> Option<&'a [u32]>
         requires { IsMeasured self.now }
         ensures widths { known_or (option_map (λ list. list.now) result)

@@ -77,7 +77,7 @@ impl<'a> Model for VisualLine<'a> {
 }
 
 impl<'a> VisualLine<'a> {
-    // Returns the widths of the shown characters, if the line is measured.
+    // Returns the widths of the shown characters, or `None` if the line is not measured.
     pub(crate) fn known(&self) -> Option<&'a [u32]>
         ensures widths { known_or (option_map (λ list. list.now) result)
             (widths_of self.now.tab_width None self.now.text) ≡ widths self.now }

@@ -1,5 +1,5 @@
 //! A fast path for paragraphs without a mandatory break before their end. It requires that lines end only at
-//! mandatory breaks, no spaces at the end of lines are shown, there are no tab stops, and no characters are
+//! mandatory breaks and hide spaces at their end, that there are no tab stops, and that no characters are
 //! printed. Such a paragraph is one line. Neither its break marks nor its columns are computed.
 ghost use Rattle.std.specs.Prelude.{◌≡◌, ◌<◌, ◌≤◌, Bool, true, false, length, None, IfOk, IfErr};
 ghost use Rattle.std.specs.List.{list_all};
@@ -34,8 +34,8 @@ pub(crate) fn is_whole(text: &Text<'_>) -> bool
     end_no_line(&properties[..properties.len().saturating_sub(1)])
 }
 
-// The number of characters that are tested together. If the number of characters is not a multiple of this,
-// the last group overlaps the one before it, so that no characters have to be tested one by one.
+// The number of characters that are tested together. If the length of a text is not a multiple of it, the
+// last group overlaps the one before it, so that no characters have to be tested one by one.
 const AT_ONCE: usize = 16;
 
 // Returns whether none of the characters is of a class after which a line must end. CR counts as such a class
@@ -68,7 +68,7 @@ fn end_none(properties: &[Properties]) -> bool
     none
 }
 
-// Returns whether a line must end after a character of a class. Returns `true` for CR, even though no line
+// Returns whether a line must end after a character of this class. Returns `true` for CR, even though no line
 // ends between CR and LF. Uses comparisons instead of a `match`, so that the loop above has no branches.
 fn ends_line(class: LineClass) -> bool
     ensures { (is_mark : Bool) → result ≡ ends_line (resolved class is_mark) }
@@ -92,8 +92,8 @@ pub(crate) fn shown_len(text: &Text<'_>) -> usize
     len
 }
 
-/// Writes a one-line paragraph, given its levels before L1, and returns the number of bytes. Uses the front
-/// of the buffers. Counts the characters.
+/// Writes a one-line paragraph, given its levels before L1, and returns the number of bytes written. Uses the
+/// front of the buffers. Counts the characters.
 pub(crate) fn write_whole<W: Sink>(
     writer: &mut W,
     form: &Form<'_>,

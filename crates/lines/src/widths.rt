@@ -1,4 +1,4 @@
-//! The columns of characters and of the tabs of a line, and tests for characters that have one column.
+//! The widths of characters and of tabs in a line, and tests for text whose characters all have one column.
 ghost use Rattle.std.specs.Prelude.{◌≡◌, ◌+◌, ◌*◌, ◌%◌, ◌^◌, ◌<◌, ◌≤◌, ℕ, None, Some, length, option_map};
 ghost use Rattle.std.specs.Prelude.{slice_index, sum, take, IfSome};
 ghost use Rattle.std.specs.List.{list_all};
@@ -51,8 +51,8 @@ pub(crate) fn put_widths(text: &[char], tab_width: u8, advances: &[u32], widths:
     }
 }
 
-/// Returns the width of the character at index `k` of a line. `known` are the widths of a measured line. For
-/// a tab of a line that is not measured, reads the characters back to the tab before it.
+/// Returns the width of the character at index `k` of a line. `known` holds the widths of a measured line.
+/// For a tab of a line that is not measured, reads the characters back to the tab before it.
 pub(crate) fn width_at(text: &[char], tab_width: u8, known: Option<&[u32]>, k: usize) -> usize
     requires within { k < length text.now }
     requires known { IfSome known (λ list. length list.now ≡ length text.now) }
@@ -87,8 +87,8 @@ pub(crate) fn is_tab(tab_width: u8, c: char) -> bool
     tab_width > 0 && c == '\t'
 }
 
-// Returns the total columns of the characters between the last tab before index `k`, or the start of the
-// line, and index `k`. A tab ends at a tab stop, and a line starts at one.
+// Returns the total columns of the characters between the last tab before index `k` and `k`, or of all
+// characters before `k` if there is no such tab. A tab ends at a tab stop, and a line starts at one.
 fn since_stop(text: &[char], k: usize) -> usize
     requires { k ≤ length text.now }
     ensures { (tab_width : ℕ) → 0 < tab_width
@@ -133,7 +133,7 @@ pub(crate) fn are_printable(text: &[char]) -> bool
 }
 
 /// Returns whether all characters are printable ASCII, or Latin, Greek, Cyrillic, Hebrew or Arabic letters,
-/// or code points between these. All of them have one column.
+/// or code points between these. All these characters have one column.
 #[inline(always)]
 pub(crate) fn are_common(text: &[char]) -> bool
     ensures { result ≡ list_all is_common text.now }

@@ -71,7 +71,8 @@ impl Workspace {
         (self.text, self.recycled) = laid.into_lists();
     }
 
-    /// Returns an empty list. The list has the capacity of a recycled text, if that capacity is about `len`.
+    /// Returns an empty list. The list has the capacity of a recycled text, if that capacity is suitable for
+    /// `len` characters (see `fits`).
     pub(crate) fn take_text(&mut self, alloc: Global, len: usize) -> Vec<char>
         ensures { result.items ≡ [] }
     {
@@ -83,8 +84,8 @@ impl Workspace {
         }
     }
 
-    /// Returns lists for a paragraph of `len` characters that is kept: recycled ones if they have about this
-    /// capacity, and otherwise empty ones.
+    /// Returns lists for a paragraph of `len` characters that is kept: recycled ones if their capacity is
+    /// suitable (see `fits`), and otherwise empty ones.
     pub(crate) fn take_lists(&mut self, alloc: Global, len: usize) -> LayoutBuffers {
         if fits(self.recycled.levels.capacity(), len) {
             mem::replace(&mut self.recycled, LayoutBuffers::new(alloc))
@@ -94,8 +95,8 @@ impl Workspace {
     }
 }
 
-// Returns whether a list of this capacity is worth using for `len` items. At most an eighth of the length
-// plus 16 items may stay unused.
+// Returns whether a list of this capacity is worth using for `len` items. At most `len / 8 + 16` items may
+// stay unused.
 fn fits(capacity: usize, len: usize) -> bool {
     capacity >= len && capacity - len <= len / 8 + 16
 }
@@ -160,8 +161,8 @@ impl Analysis {
     }
 }
 
-/// Replaces the contents of `ends` with where the grapheme clusters of a paragraph end, if its lines are
-/// ordered by clusters. Otherwise, clears `ends`.
+/// If lines are ordered by clusters, sets `ends` to whether a grapheme cluster ends after each character of a
+/// paragraph. Otherwise, clears `ends`.
 pub(crate) fn fill_ends(
     clusters: &mut ClusterBuffers,
     options: Options,

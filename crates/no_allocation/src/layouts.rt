@@ -10,7 +10,7 @@ use oom_calls::tables::{engine, let_go};
 use oom_calls::{Printed, Writer, Wrong};
 use std::alloc::Global;
 
-/// Returns a digest of what the calls return, which is the same in each round.
+/// Returns a digest of the calls' results. The results are the same in each round.
 pub fn digest(alloc: Global, rounds: u32) -> Result<u64, Wrong> {
     let mut engine = engine(alloc)?;
     let result = digest_by(alloc, &mut engine, rounds);

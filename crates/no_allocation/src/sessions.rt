@@ -8,7 +8,7 @@ use session::{Damage, EditFault, Kept, Session};
 use std::alloc::Global;
 use store::ParagraphStore;
 
-/// Returns a digest of what the calls return, which is the same in each round.
+/// Returns a digest of the calls' results. The results are the same in each round.
 pub fn digest<S: ParagraphStore<Kept> + Drop>(alloc: Global, rounds: u32) -> Result<u64, Wrong> {
     let long = letters(alloc, 16_777_217)?;
     let mut session: Session<S> = open(alloc)?;

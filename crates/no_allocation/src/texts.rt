@@ -8,7 +8,7 @@ use ucd::Tables;
 
 const TEXT: [char; 8] = ['a', 'א', '(', '\u{300}', ' ', '\n', '1', '\u{4e00}'];
 
-/// Returns a digest of what the calls return, which is the same in each round.
+/// Returns a digest of the calls' results. The results are the same in each round.
 pub fn digest(alloc: Global, rounds: u32) -> Result<u64, Wrong> {
     let Ok(tables) = Tables::read(alloc, &FILES) else {
         return Err("no tables");

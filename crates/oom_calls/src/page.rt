@@ -2,10 +2,10 @@
 use std::io;
 use std::io::Write;
 
-// The capacity of a buffer. All outputs here are shorter.
+// The capacity of a buffer. All outputs of these tests are shorter.
 const ROOM: usize = 512;
 
-/// The bytes that were written.
+/// A buffer, and how many bytes were written to it.
 #[derive(Clone, Copy)]
 pub struct Printed {
     room: [u8; ROOM],
@@ -35,7 +35,7 @@ impl Printed {
     }
 }
 
-/// Writes to a buffer, and fails if it is full.
+/// Writes as many bytes to a buffer as fit, and none if it is full.
 #[derive(Drop)]
 pub struct Writer<'a> {
     pub page: &'a mut Printed,

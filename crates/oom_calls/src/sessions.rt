@@ -8,7 +8,7 @@ use session::{Damage, Edit, EditFault, Kept, Session};
 use std::alloc::Global;
 use store::ParagraphStore;
 
-/// The text on which the sessions are opened.
+/// The text with which the sessions are opened.
 pub const TEXT: &str = "ab\ncd\nef";
 
 // An edit; the first line, the old lines and the new lines of its damage; and how much the edit may add to
@@ -80,8 +80,8 @@ fn check_refusal(engine: &Engine, fault: EditFault) -> Result<(), Wrong> {
     Ok(())
 }
 
-/// Executes each edit, and checks that a failed edit changes nothing. The calls that check this do not
-/// allocate, so they are also made if nothing fails.
+/// Executes each edit in its own session, and checks that a failed edit changes nothing. The check allocates
+/// nothing, and is also made before each edit.
 pub fn try_calls<S: ParagraphStore<Kept> + Drop>(alloc: Global) -> Result<(), Wrong> {
     let untouched: Session<S> = open(alloc)?;
     let answer = try_edits(alloc, &untouched);

@@ -49,7 +49,7 @@ pub fn try_read(alloc: Global) -> Result<(), Wrong> {
     Ok(())
 }
 
-/// Makes a new engine for each call.
+/// Reads the files, and makes an engine.
 pub fn engine(alloc: Global) -> Result<Engine, Wrong> {
     Ok(Engine::new(read(alloc)?, Options::default()))
 }

@@ -14,7 +14,7 @@ use ucd::Tables;
 
 const UNREAD: ProgramFault = ProgramFault::Run(RunFault::Read);
 
-/// Returns the names of the text file and the script file, if there are two arguments.
+/// Returns the names of the text file and the script file, or `None` if there are fewer than two arguments.
 pub fn files(rt: &HostRuntime) -> Option<(String, String)> {
     let Ok(mut words) = env::args(rt) else {
         return None;

@@ -9,7 +9,7 @@ pub fn arguments(rt: &HostRuntime) -> io::Result<Vec<String>> {
     Ok(words.collect(rt.alloc())?)
 }
 
-/// Returns the arguments as slices.
+/// Returns the arguments as string slices.
 pub fn as_texts<'a>(alloc: Global, words: &'a [String]) -> Result<Vec<&'a str>, AllocError> {
     words.iter().map(|word| word.as_str()).collect(alloc)
 }

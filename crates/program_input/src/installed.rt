@@ -17,9 +17,9 @@ fn usual_folders(version: Version) -> [&'static str; 2] {
     }
 }
 
-/// Returns the folder of the installed table files of a version, if there is one: `path`, relative to the
-/// program's folder. If `/proc` is not mounted, first looks for the program under the name by which it was
-/// started, and then for the folder in `/usr/local` and `/usr`.
+/// Returns the folder of a version's installed table files, or `None` if there is none. It is at `path`,
+/// relative to the program's folder. If `/proc` is not mounted, first looks for the program by the name with
+/// which it was started, and then for the folder in `/usr/local` and `/usr`.
 pub fn installed_folder(
     rt: &HostRuntime,
     path: &str,
@@ -71,8 +71,8 @@ fn folder_by_arguments(rt: &HostRuntime, path: &str) -> Result<Option<PathBuf>, 
     }
 }
 
-// Looks for the program in the folders of `PATH`, as the shell that started it did. An empty part of `PATH`
-// is the current folder, as in POSIX.
+// Searches the folders of `PATH` for the program, as the shell that started it did. Returns the folder of the
+// tables, or `None` if there is none. An empty part of `PATH` is the current folder, as in POSIX.
 fn folder_by_search(
     rt: &HostRuntime,
     path: &str,
@@ -92,7 +92,8 @@ fn folder_by_search(
     Ok(None)
 }
 
-// Returns the folder of the tables for a path of the program, which may be a symbolic link.
+// Returns the folder of the tables, or `None` if there is none, given a path of the program that may be a
+// symbolic link.
 fn folder_beside_link(
     rt: &HostRuntime,
     path: &str,

@@ -1,5 +1,5 @@
--- The visual order that keeps the characters of each grapheme cluster at an odd level in logical order. A character
--- that continues a cluster, at the level of the character before it, is treated like a mark in L3.
+-- The visual order that keeps the characters of each grapheme cluster at an odd level in logical order. L3
+-- treats a character like a mark if it continues a cluster and has the level of the character before it.
 use Rattle.std.specs.Prelude.{◌≡◌, ℕ, zero, suc, ◌+◌, ◌<◌, ◌≤◌, ◌==◌, Bool, true, false, ◌&&◌, not, ◌⊎◌, List, length, map, slice_index, slice_index_or, if◌then◌else◌}
 use Rattle.std.specs.List.{range_with_len}
 use Rattle.ucd.specs.declared.bidi_class.BidiClass.{BidiClass}

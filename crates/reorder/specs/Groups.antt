@@ -13,14 +13,14 @@ module _ (classes : List BidiClass) (levels : List ℕ) where
     pub same : (k : ℕ) → k ≤ n → slice_index levels (base + k) ≡ slice_index levels base
     pub whole : is_mark_at classes (base + n + 1) ≡ true → slice_index levels (base + n + 1) ≢ slice_index levels base
 
-  -- the base and its marks are adjacent: in reverse logical order with L2 alone, and in logical order with L3
+  -- the base and its marks are adjacent in visual order: reversed with L2 alone, and in logical order with L3
   pub record StandsTogether (base n : ℕ) : Type 0 where
     pub at : ℕ
     pub within : at + n < length levels
     pub reversed : (k : ℕ) → k ≤ n → slice_index (vtol_of false classes levels) (at + k) ≡ base + (n - k)
     pub read : (k : ℕ) → k ≤ n → slice_index (vtol_of true classes levels) (at + k) ≡ base + k
 
-  -- a character in no group: neither the character itself nor the one after it is a mark with a base
+  -- a character without a base and without marks: neither it nor the one after it is a mark with a base
   pub record IsAlone (place : ℕ) : Type 0 where
     pub no_base : has_base classes levels place ≡ false
     pub no_marks : has_base classes levels (suc place) ≡ false
@@ -31,7 +31,8 @@ module _ (classes : List BidiClass) (levels : List ℕ) where
   is_bound place next =
       (next + 1 == place) && (is_mark_at classes place && (is_odd (slice_index levels next) && (slice_index levels place == slice_index levels next)))
 
-  -- each of the first n positions in a list is bound to the next position (`is_bound`), and position n is not
+  -- each of the first n items of a list is bound to the next item (`is_bound`), and the item at index n is
+  -- not
   pub record AreBound (items : List ℕ) (n : ℕ) : Type 0 where
     pub within : n < length items
     pub bound : (k : ℕ) → k < n → is_bound (slice_index items k) (slice_index items (k + 1)) ≡ true

@@ -3,7 +3,7 @@ use Rattle.std.specs.Prelude.{◌≡◌, ℕ, ◌-◌, Bool, List, [], ◌∷◌
 use Rattle.ucd.specs.declared.bidi_class.BidiClass.{BidiClass}
 use Rattle.reorder.specs.Groups.{IsAlone, IsGroup}
 
--- an array with each maximal interval of flagged items reversed; `run` is the current interval, already reversed
+-- reverses each maximal interval of flagged items; `run` is the current interval, already reversed
 abbrev pub reverse_flagged : List Bool → List ℕ → List ℕ → List ℕ
 reverse_flagged [] run items = run
 reverse_flagged (flag ∷ flags) run [] = run
@@ -13,7 +13,7 @@ reverse_flagged (flag ∷ flags) run (x ∷ items) = if flag then reverse_flagge
 abbrev pub flags_at : ℕ → List ℕ → List Bool
 flags_at level levels = map (nat_le level) levels
 
--- the `len` characters from `start` on are a chunk: a base and all its marks, or a single character in no
--- group
+-- the `len` characters from `start` on are a chunk: a base and all its marks, or a character without a base
+-- and without marks
 abbrev pub IsChunk : List BidiClass → List ℕ → ℕ → ℕ → Type 0
 IsChunk classes levels start len = IsGroup classes levels start (len - 1) ⊎ ((len ≡ 1) × IsAlone classes levels start)

@@ -21,7 +21,7 @@ module _ (levels : List ℕ) where
   abbrev pub run_shown : ℕ → List ℕ
   run_shown s = if is_odd (slice_index levels s) then reverse (run_at s) else run_at s
 
-  -- the list with its intervals reversed for each level, as in L2
+  -- a list in which the intervals of each level have been reversed, as in L2
   abbrev pub turned_by : List ℕ → Option ℕ → List ℕ
   turned_by items None = items
   turned_by items (Some low) = reversed_from levels low (suc (highest levels) - low) items

@@ -48,7 +48,8 @@ module _ (levels : List ℕ) where
     pub after : IsLeft place next
     pub first : (k : ℕ) → k < length levels → IsLeft place k → k ≢ next → IsLeft next k
 
-  -- the character directly to the right of `place`, or none if all other characters are to its left
+  -- the character directly to the right of `place`, or `None` if all other characters are to the left of
+  -- `place`
   abbrev pub IsNext : ℕ → Option ℕ → Type 0
   IsNext place None = (k : ℕ) → k < length levels → k ≢ place → IsLeft k place
   IsNext place (Some next) = IsRightOf place next
@@ -66,9 +67,8 @@ module _ (levels : List ℕ) where
     pub high : AreAtLeast level first (end - 1)
     pub leftmost : (k : ℕ) → k < end → AreAtLeast level k (end - 1) → k ≢ first → IsLeft first k
 
-  -- The characters from `start` up to `end`, including `place`, are at the given level or higher, and none of
-  -- the others is to the right of `place`. This range includes all characters above the level that adjoin
-  -- `place`.
+  -- The characters from `start` up to `end`, including `place`, are at the given level or higher, and `place`
+  -- is the rightmost of them. This range includes all characters above the level that adjoin `place`.
   pub record IsPassed (place level start end : ℕ) : Type 0 where
     pub from : start ≤ place
     pub to : place < end

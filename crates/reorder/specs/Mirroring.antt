@@ -5,7 +5,7 @@ use Rattle.ucd.specs.declared.tables.Tables.{Tables}
 use Rattle.reorder.specs.Order.{is_odd}
 
 module _ (t : Tables) where
-  -- a character at an odd level is replaced by its mirror, if it has one
+  -- a character, replaced by its mirror if it is at an odd level and has one
   abbrev pub mirrored : ℕ → ℕ → ℕ
   mirrored level c = if is_odd level then unwrap_or (mirror_of t c) c else c
 

@@ -6,7 +6,7 @@ use Rattle.ucd.specs.Classes.{class_at}
 use Rattle.ucd.specs.Least.{least}
 use Rattle.ucd.specs.Classes.{is_mark}
 
--- a list with each maximal interval of items that pass a test reversed; `run` is the current interval, reversed
+-- reverses each maximal interval of items that pass a test; `run` is the current interval, reversed
 abbrev pub reverse_runs : (ℕ → Bool) → List ℕ → List ℕ → List ℕ
 reverse_runs test run [] = run
 reverse_runs test run (i ∷ items) = if test i then reverse_runs test (i ∷ run) items else run ++ i ∷ reverse_runs test [] items
@@ -40,8 +40,8 @@ module _ (levels : List ℕ) where
   abbrev pub places : List ℕ
   places = range_with_len 0 (length levels)
 
-  -- the list after the intervals have been reversed for each level from the highest down to the lowest odd
-  -- level, if there is one
+  -- the positions after the intervals have been reversed for each level from the highest down to the lowest
+  -- odd level; `None` means that no level is odd
   abbrev pub order_by : Option ℕ → List ℕ
   order_by None = places
   order_by (Some low) = reversed_from low (suc highest - low) places
@@ -72,8 +72,8 @@ module _ (classes : List BidiClass) (levels : List ℕ) where
   has_base zero = false
   has_base (suc i) = precedes_mark i && (not (is_mark_at classes i) || has_base i)
 
--- The logical position of each visual position. L2 puts marks with a base to the left of the base, the last one
--- first. With `reordernsm`, the marks are to the right of the base, in logical order (L3).
+-- The logical position of each visual position. L2 puts marks with a base to the left of the base, in reverse
+-- logical order. With `reordernsm`, the marks are to the right of the base, in logical order (L3).
 unfoldable pub vtol_of : Bool → List BidiClass → List ℕ → List ℕ
 vtol_of reordernsm classes levels = if reordernsm then reverse_with_next (has_base classes levels) [] (order_of levels) else order_of levels
 

@@ -13,13 +13,14 @@ places_in run = if is_odd run.level then reverse (range_with_len run.start run.l
 abbrev pub has_place : ℕ → Run → Bool
 has_place place run = nat_le run.start place && nat_lt place (run.start + run.len)
 
--- the items of a list from the first one that equals x on
+-- the items of a list from the first x on
 abbrev pub items_from : ℕ → List ℕ → List ℕ
 items_from x [] = []
 items_from x (y ∷ ys) = if y == x then y ∷ ys else items_from x ys
 
 module _ (levels : List ℕ) where
-  -- whether a run begins at a position, that is, whether the character before it is at another level
+  -- whether a run begins at a position: no character is before it, or the character before it is at another
+  -- level
   abbrev pub begins_run : ℕ → Bool
   begins_run zero = true
   begins_run (suc i) = not (slice_index levels (suc i) == slice_index levels i)
@@ -28,7 +29,7 @@ module _ (levels : List ℕ) where
   abbrev pub run_from : ℕ → Run
   run_from start = record { start = start; len = level_run_len levels start; level = slice_index levels start }
 
-  -- where runs begin, in visual order by L2
+  -- where runs begin, in visual order according to L2
   abbrev pub run_starts : List ℕ
   run_starts = filter begins_run (order_of levels)
 
@@ -49,9 +50,9 @@ module _ (levels : List ℕ) where
     pub before : 0 < run.start → slice_index levels (run.start - 1) ≢ run.level
     pub after : run.start + run.len < length levels → slice_index levels (run.start + run.len) ≢ run.level
 
-  -- Whether runs are those of the line from left to right: each run is maximal, each character is in exactly one run,
-  -- and the characters of the runs, one run after another, are in visual order. So a sum over all characters equals the
-  -- sum over the runs.
+  -- Whether runs are those of the line from left to right. Each run is maximal, and each character is in
+  -- exactly one run. The characters of the runs, one run after another, are in visual order. So a sum over
+  -- all characters equals the sum over the runs.
   pub record AreRuns (runs : List Run) : Type 0 where
     pub maximal : All IsMaximal runs
     pub once : (place : ℕ) → place < length levels → count_by (has_place place) runs ≡ 1

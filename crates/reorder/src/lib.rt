@@ -1,8 +1,8 @@
 //! The order of a line's characters on a screen (UAX #9, section 3.4, L1 to L4).
 //!
-//! A caller that breaks lines itself copies the levels of a line from the levels of its paragraph
-//! (`bidi::resolve`). The following calls reset some of the levels (L1), find the visual order (L2, L3), and
-//! mirror characters (L4):
+//! A caller that breaks lines itself copies a line's levels from those of the paragraph (`bidi::resolve`).
+//! The following calls reset some of the levels (L1), find the visual order (L2, L3), and mirror characters
+//! (L4):
 //!
 //! ```rust
 //! let line = TextClasses { tables, text };

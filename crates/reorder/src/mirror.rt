@@ -9,8 +9,8 @@ ghost use Rattle.reorder.specs.Mirroring.{mirrored, visual_chars};
 use crate::order::level_run_len;
 use ucd::{Properties, Tables};
 
-/// Writes the characters of a line in visual order. `vtol` holds the logical position of each character. A
-/// character at an odd level is replaced by its mirror, if it has one.
+/// Writes the characters of a line in visual order. `vtol` holds the logical position for each visual
+/// position. A character at an odd level is replaced by its mirror, if it has one.
 pub fn visual_chars(
     tables: &Tables,
     line: &[char],

@@ -283,8 +283,8 @@ fn reverse_groups<C: Classes>(line: &C, levels: &[u8], vtol: &mut [u32])
     }
 }
 
-// Reverses the group at the front of a list, if there is one. Returns the number of positions that are then
-// final. Before the call, item `result - 1` is a base, or a mark without a base.
+// Reverses the group at the front of a list, if there is one. Returns how many positions at the front are
+// then final. Before the call, item `result - 1` is a base, or a mark without a base.
 fn reverse_group<C: Classes>(line: &C, levels: &[u8], items: &mut [u32]) -> usize
     requires line { length levels.now ≤ length (C.all line.now) }
     requires items { (start : ℕ) × (items.old ≡ drop start (order_of levels.now)) }
@@ -302,8 +302,8 @@ fn reverse_group<C: Classes>(line: &C, levels: &[u8], items: &mut [u32]) -> usiz
     len + 1
 }
 
-// Counts the marks at the front of a list, as long as each mark is directly to the left of the character that
-// it follows in logical order.
+// Counts the marks at the front of a list, up to the first that is not directly to the left of the character
+// that it follows in logical order.
 fn bound_len<C: Classes>(line: &C, levels: &[u8], items: &[u32]) -> usize
     requires line { length levels.now ≤ length (C.all line.now) }
     requires items { AreWithin (length levels.now) items.now }
@@ -361,7 +361,8 @@ fn reverse_levels(levels: &[u8], top: u8, low: Option<u8>, items: &mut [u32])
     }
 }
 
-// Returns the lowest odd level so far, including `level`.
+// Returns the lowest odd level so far: the lower of `lowest` and `level` if `level` is odd, and otherwise
+// `lowest`.
 fn lower_odd(lowest: Option<u8>, level: u8) -> Option<u8>
     ensures { result ≡ (if is_odd level then Some (min (unwrap_or lowest level) level) else lowest) }
 {

@@ -78,7 +78,7 @@ impl<'a> Iterator for Runs<'a> {
     }
 }
 
-// Returns where the run directly to the right of another run begins.
+// Returns where the run directly to the right of another run begins, or `None` if there is no such run.
 fn run_after(levels: &[u8], start: usize, len: usize) -> Option<usize>
     requires start { start < length levels.now }
     requires begins { begins_run levels.now start ≡ true }
@@ -107,8 +107,8 @@ fn run_start(levels: &[u8], place: usize) -> usize
     start
 }
 
-// Returns the character directly to the right of another one. Skips, level by level, the adjoining characters
-// that are to the left of the given one.
+// Returns the character directly to the right of the one at `place`, or `None` if there is none. Skips, level
+// by level, adjoining characters that are to the left of that one.
 fn right_of(levels: &[u8], place: usize) -> Option<usize>
     requires { place < length levels.now }
     ensures { IsNext levels.now place result }
@@ -159,8 +159,8 @@ fn extent_on(levels: &[u8], level: u8, start: usize) -> usize
     end
 }
 
-// Returns the leftmost of the characters from `start` up to the first one below `level`, where `level` is
-// even. The first character at `level` is to the left of the characters after it.
+// Returns the leftmost of the characters from `start` up to the first one below `level`, which must be even.
+// The first character at `level` is to the left of the characters after it.
 fn leftmost_on(levels: &[u8], level: u8, start: usize) -> usize
     requires start { start < length levels.now }
     requires level { is_odd level ≡ false }
@@ -181,8 +181,8 @@ fn leftmost_on(levels: &[u8], level: u8, start: usize) -> usize
     first
 }
 
-// Returns the leftmost of the characters before `end`, back to the last one below `level`, where `level` is
-// odd. The last character at `level` is to the left of the characters before it.
+// Returns the leftmost of the characters before `end`, back to the last one below `level`, which must be odd.
+// The last character at `level` is to the left of the characters before it.
 fn leftmost_back(levels: &[u8], level: u8, end: usize) -> usize
     requires end { (0 < end) × (end ≤ length levels.now) }
     requires level { is_odd level ≡ true }

@@ -12,7 +12,7 @@ pub fn reset_levels<C: Classes>(line: &C, base: u8, levels: &mut [u8])
     requires { length (C.all line.now) ≡ length levels.old }
     ensures { levels.new ≡ line_levels base (C.all line.now) levels.old }
 {
-    // Whether a blank directly before this index would be reset. If not, no character back to the last
+    // Whether a blank directly before the index `at` would be reset. If not, no character back to the last
     // separator is reset.
     let mut resets = true;
     let mut at = line.len();

@@ -46,7 +46,8 @@ escaped text =
     else (if slice_index text 0 == 92 then Some (92, 2)
     else (if slice_index text 0 == 117 && slice_index text 1 == 123 then braced (drop 2 text) else None)))
 
--- the first character that a text represents, and the number of characters that represent it
+-- the first character that a text represents, and how many characters represent it; `None` if these are an
+-- invalid escape
 abbrev pub written : ℕ → List ℕ → Option (ℕ × ℕ)
 written c after = if c == 92 then escaped after else Some (c, 1)
 
@@ -63,14 +64,14 @@ unescaped_after zero (c ∷ text) = onto (written c text) (λ len. unescaped_aft
 abbrev pub unescaped : List ℕ → Option (List ℕ)
 unescaped text = unescaped_after 0 text
 
--- the parts of a text before and after its first space
+-- the parts of a text before and after its first space, or `None` if it has no space
 abbrev pub is_space : ℕ → Bool
 is_space c = c == 32
 
 abbrev pub parted : List ℕ → Option (List ℕ × List ℕ)
 parted text = if nat_lt (position_or_len is_space text) (length text) then Some (before_first is_space text, after_first is_space text) else None
 
--- the rest of a text after a prefix, if the text starts with that prefix
+-- the rest of a text after a prefix, or `None` if the text does not start with the prefix
 abbrev pub stripped : List ℕ → List ℕ → Option (List ℕ)
 stripped word text = if pointwise (◌==◌) (take (length word) text) word then Some (drop (length word) text) else None
 
@@ -84,13 +85,13 @@ abbrev pub insertion_in : Option (List ℕ × List ℕ) → Option Command
 insertion_in None = None
 insertion_in (Some (pos, text)) = insertion_of (number_in pos) (unescaped text)
 
--- A text whose escapes are valid represents more characters than were kept.
+-- All escapes of `text` are valid, and `kept` has fewer characters than the text represents.
 pub record LacksText (text kept : List ℕ) : Type 0 where
   pub whole : List ℕ
   pub right : unescaped text ≡ Some whole
   pub short : length kept < length whole
 
--- The text of an insert at a valid position represents more characters than were kept.
+-- The position of an insert is a number, and `kept` has fewer characters than the insert's text represents.
 pub record LacksInsertedIn (text kept : List ℕ) : Type 0 where
   pub pos : List ℕ
   pub inserted : List ℕ

@@ -1,4 +1,4 @@
-//! Parses the lines of an edit script.
+//! Parses the lines of an edit script. The parsers return `None` for a text in any other form.
 ghost use Rattle.std.specs.Prelude.{◌≡◌, ◌+◌, ◌<◌, ◌≤◌, ◌^◌, List, ℕ, take, drop, length, true};
 ghost use Rattle.std.specs.Prelude.{IfOk, IfSome, None, OnErr, Some, is_some, option_map};
 ghost use Rattle.std.specs.Prelude.{if◌then◌else◌, string_bytes};
@@ -355,14 +355,14 @@ fn width(text: &[char]) -> Option<Command>
     Some(Command::SetWidth(number(text)?))
 }
 
-// Returns the rest of a text after the prefix `word`, if the text has this prefix.
+// Returns the rest of a text after the prefix `word`, or `None` if the text does not start with `word`.
 fn after<'a>(word: &[char], text: &'a [char]) -> Option<&'a [char]>
     ensures { option_map (λ rest. rest.now) result ≡ stripped word.now text.now }
 {
     text.strip_prefix(word)
 }
 
-// Returns the parts of a text before and after its first space, if it has one.
+// Returns the parts of a text before and after its first space, or `None` if it has no space.
 fn words(text: &[char]) -> Option<(&[char], &[char])>
     ensures { option_map (λ words. (words.0.now, words.1.now)) result ≡ parted text.now }
 {
@@ -451,7 +451,8 @@ fn unescape(text: &[char], inserted: &mut String) -> Result<bool, AllocError>
     Ok(true)
 }
 
-// Returns the first character that a text represents, and the number of characters that represent it.
+// Returns the first character that a text represents, and how many characters represent it, or `None` if
+// these are an invalid escape. The text is `c`, followed by `after`.
 fn written(c: char, after: &[char]) -> Option<(char, usize)>
     ensures value { result ≡ written c after.now }
     ensures within { IfSome result (λ w. (0 < w.1) × (w.1 ≤ length after.now + 1)) }
@@ -463,7 +464,8 @@ fn written(c: char, after: &[char]) -> Option<(char, usize)>
     }
 }
 
-// Returns the character of an escape and the length of the whole escape, given the text after its backslash.
+// Returns the character and the length of an escape, or `None` if it is invalid, given the text after its
+// backslash.
 fn escaped(text: &[char]) -> Option<(char, usize)>
     ensures value { result ≡ escaped text.now }
     ensures within { IfSome result (λ w. (0 < w.1) × (w.1 ≤ length text.now + 1)) }
@@ -482,7 +484,8 @@ fn escaped(text: &[char]) -> Option<(char, usize)>
     }
 }
 
-// Returns the character of an escape `\u{H}` and the length of the whole escape, given the text after `\u{`.
+// Returns the character and the length of an escape `\u{H}`, or `None` if it is invalid, given the text after
+// `\u{`.
 fn braced(text: &[char]) -> Option<(char, usize)>
     ensures value { result ≡ braced text.now }
     ensures within { IfSome result (λ w. (0 < w.1) × (w.1 ≤ length text.now + 3)) }

@@ -10,12 +10,13 @@ abbrev pub script_at : List Script → ℕ → Script
 script_at scripts k = slice_index_or scripts k Common
 
 module _ (scripts : List Script) where
-  -- whether a run begins at a position, that is, whether the character before it has another script
+  -- whether a run begins at a position: no character is before it, or the character before it has another
+  -- script
   abbrev pub begins_run : ℕ → Bool
   begins_run zero = true
   begins_run (suc k) = not (script_eq (script_at scripts (suc k)) (script_at scripts k))
 
-  -- the run that begins at a position: the characters from there on that have the same script
+  -- the run that begins at a position: the characters from there up to the next one with another script
   abbrev pub run_from : ℕ → ScriptRun
   run_from start = record {
     start = start;

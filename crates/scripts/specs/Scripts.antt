@@ -18,12 +18,12 @@ first_script text = unwrap_or (find (λ own. not (takes_script own)) (map script
 
 -- ---- brackets (UAX #9, BD14 and BD15)
 
--- the index of the innermost opening bracket that a closing bracket matches, in a list of the open brackets from the
--- innermost outwards
+-- the index of the first opening bracket that a closing bracket matches, in a list of the open brackets from
+-- the innermost outwards, or `None` if there is none
 abbrev pub matching : ℕ → List Opening → Option ℕ
 matching closing openings = position (λ opening. opening.closing == closing) openings
 
--- the index of the opening bracket that a character closes
+-- the index of the opening bracket that a character closes, or `None` if it closes none
 abbrev pub closed_by : Option Bracket → ℕ → List Opening → Option ℕ
 closed_by None c openings = None
 closed_by (Some bracket) c openings = if bracket.opens then None else matching c openings

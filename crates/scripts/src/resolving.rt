@@ -51,7 +51,8 @@ fn first_script(text: &[char]) -> Script
     Script::Common
 }
 
-// Returns the index of the innermost opening bracket that a closing bracket matches.
+// Returns the index of the innermost opening bracket that a closing bracket matches, or `None` if there is
+// none.
 fn matching(openings: &HeapCircularBuffer<Opening>, closing: char) -> Option<usize>
     ensures { result ≡ matching closing openings.now.items }
 {
@@ -60,7 +61,7 @@ fn matching(openings: &HeapCircularBuffer<Opening>, closing: char) -> Option<usi
         .position(|opening| opening.closing == closing)
 }
 
-// Returns the index of the opening bracket that a character closes.
+// Returns the index of the opening bracket that a character closes, or `None` if it closes none.
 fn closed_by(
     bracket: Option<Bracket>,
     openings: &HeapCircularBuffer<Opening>,
@@ -80,7 +81,8 @@ fn closed_by(
     }
 }
 
-// Returns the script that a character takes from other characters, given the script of the previous one.
+// Returns the script that a character takes from other characters, given the script of the character before
+// it.
 fn taken_script(
     bracket: Option<Bracket>,
     openings: &HeapCircularBuffer<Opening>,

@@ -9,7 +9,7 @@ is_control c = nat_lt c 0x20 || (nat_le 0x7F c && nat_lt c 0xA0)
 abbrev pub is_kept_control : ℕ → Bool
 is_kept_control c = (nat_le 0x09 c && nat_le c 0x0D) || ((nat_le 0x1C c && nat_le c 0x1E) || c == 0x85)
 
--- all other controls are dropped
+-- the controls that are dropped: all others
 abbrev pub is_dropped : ℕ → Bool
 is_dropped c = is_control c && not (is_kept_control c)
 
@@ -23,6 +23,6 @@ is_inline c = not (is_control c || (c == 0x2028 || c == 0x2029))
 abbrev pub ends_piece : ℕ → Bool
 ends_piece c = not (is_dropped c || is_inline c)
 
--- a C1 control that introduces the same kind of sequence as ESC and the character 0x40 below the control
+-- a C1 control that introduces the same kind of sequence as ESC and the character whose code is 0x40 lower
 abbrev pub is_c1_introducer : ℕ → Bool
 is_c1_introducer c = nat_le 0x80 c && (nat_lt c 0xA0 && not (c == 0x85))

@@ -7,7 +7,7 @@ use Rattle.sequences.specs.declared.look.Underline.TheVariants.{Single, Double, 
 use Rattle.sequences.specs.declared.look.Blink.TheVariants.{Slow, Rapid}
 use Rattle.sequences.specs.declared.look.TheConstants.{PLAIN}
 
--- 1 to 9 set an attribute
+-- each of the parameters 1 to 9 sets an attribute
 abbrev pub set_attribute : ℕ → Look → Look
 set_attribute n look =
     if n == 1 then record look { bold = true }
@@ -20,7 +20,7 @@ set_attribute n look =
     else if n == 8 then record look { conceal = true }
     else record look { strike = true }
 
--- 21 is a double underline, and 22 to 29 end attributes
+-- 21 sets a double underline, and 22 to 29, except for 26, end attributes
 abbrev pub end_attribute : ℕ → Look → Look
 end_attribute n look =
     if n == 21 then record look { underline = Some Double }
@@ -33,8 +33,8 @@ end_attribute n look =
     else if n == 29 then record look { strike = false }
     else look
 
--- 30 to 37, 90 to 97 and 39 are foregrounds, and 40 to 47, 100 to 107 and 49 are backgrounds. 53 and 55 set and end an
--- overline, and 59 is the default color of underlines.
+-- 30 to 37, 39 and 90 to 97 set the foreground, and 40 to 47, 49 and 100 to 107 the background. The
+-- parameters 53 and 55 begin and end an overline, and 59 resets the color of underlines.
 abbrev pub set_basic : ℕ → Look → Look
 set_basic n look =
     if nat_lt n 38 then record look { foreground = Some (Basic (n - 30)) }
@@ -80,7 +80,7 @@ with_color n (Some color) look =
     else if n == 48 then record look { background = Some color }
     else record look { underline_color = Some color }
 
--- colors, if all values are at most 255
+-- a color, or `None` if a value is greater than 255
 abbrev pub indexed : ℕ → Option Color
 indexed n = if nat_lt n 256 then Some (Indexed n) else None
 
@@ -95,14 +95,16 @@ value values k = slice_index_or values k 256
 abbrev pub is_kind : ℕ → Bool
 is_kind kind = kind == 5 || kind == 2
 
--- the color that a list of values begins with: kind 5 and an index, or kind 2 and red, green and blue
+-- the color that a list of values begins with: kind 5 and an index, or kind 2 and red, green and blue; `None`
+-- for other values
 abbrev pub color_of : List ℕ → Option Color
 color_of values =
     if value values 0 == 5 then indexed (value values 1)
     else if value values 0 == 2 then rgb (value values 1) (value values 2) (value values 3)
     else None
 
--- the color of `38:5:n`, `38:2:r:g:b` or `38:2:space:r:g:b`, given the fields after 38
+-- the color of `38:5:n`, `38:2:r:g:b` or `38:2:space:r:g:b`, given the fields after 38; `None` for other
+-- fields
 abbrev pub field_color : List ℕ → Option Color
 field_color fields =
     if value fields 0 == 5 && length fields == 2 then color_of fields
@@ -110,7 +112,7 @@ field_color fields =
     else if value fields 0 == 2 && length fields == 5 then color_of (2 ∷ drop 2 fields)
     else None
 
--- a parameter with several fields, such as `4:3`
+-- the attributes after a parameter with several fields, such as `4:3`
 abbrev pub with_fields : ℕ → List ℕ → Look → Look
 with_fields n fields look =
     if is_color n then with_color n (field_color fields) look
@@ -137,8 +139,8 @@ color_len following =
     else if value (map single following) 0 == 2 then 4
     else length following
 
--- The number of following parameters that belong to a parameter with these fields. If a color parameter has a
--- second field, none do for a known kind of color, and all do for an unknown kind.
+-- The number of following parameters that belong to a parameter with these fields. For a color parameter with
+-- several fields, the number is 0 if the kind of color is known, and otherwise includes all of them.
 abbrev pub taken : List ℕ → List (List ℕ) → ℕ
 taken parameter following =
     if not (is_color (value parameter 0)) then 0

@@ -12,14 +12,14 @@ use Rattle.sequences.specs.declared.look.Blink.{Blink}
 use Rattle.sequences.specs.declared.look.Blink.TheVariants.{Slow, Rapid}
 use Rattle.sequences.specs.declared.look.TheConstants.{PLAIN}
 
--- a number below 1,000
+-- the decimal digits of a number below 1,000
 abbrev pub digits : ℕ → List ℕ
 digits n =
     if nat_lt n 10 then (0x30 + n) ∷ []
     else if nat_lt n 100 then (0x30 + n / 10) ∷ (0x30 + n % 10) ∷ []
     else (0x30 + n / 100) ∷ (0x30 + n / 10 % 10) ∷ (0x30 + n % 10) ∷ []
 
--- numbers with a separator between them
+-- three numbers with a separator between them
 abbrev pub three : ℕ → ℕ → ℕ → ℕ → List ℕ
 three separator r g b = digits r ++ (separator ∷ digits g ++ (separator ∷ digits b))
 

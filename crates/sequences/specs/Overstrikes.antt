@@ -10,14 +10,13 @@ abbrev pub after_backspaces : List ℕ → List ℕ
 after_backspaces (b ∷ c ∷ text) = if b == 0x08 && is_inline c then c ∷ after_backspaces text else []
 after_backspaces text = []
 
--- the characters that are struck over the first one of a text
+-- the characters at the start of a text that are struck over `c`, the character before it
 abbrev pub strikes : ℕ → List ℕ → List ℕ
 strikes c text = if is_inline c then after_backspaces text else []
 
 -- Strikes one more character. X over X is bold. A low line (U+005F) under or over X is an underline. A low
 -- line over a low line is underlined if the character before is underlined and not bold, and otherwise bold.
--- A third low line makes the result both underlined and bold. Any other character replaces the character
--- before it.
+-- A third low line makes the result both underlined and bold. Any other character replaces the one under it.
 abbrev pub strike : Bool → Struck → ℕ → Struck
 strike after_underline s c =
     if c == s.shown then
@@ -28,11 +27,11 @@ strike after_underline s c =
     else if s.shown == 0x5F then record { shown = c; bold = false; underlined = true }
     else record { shown = c; bold = false; underlined = false }
 
--- the result of striking characters over the first one of a text
+-- the result of striking characters at the start of a text over `c`, the character before it
 abbrev pub struck : Bool → ℕ → List ℕ → Struck
 struck after_underline c text = fold (strike after_underline) (record { shown = c; bold = false; underlined = false }) (strikes c text)
 
--- the attributes at a position, given the attributes that SGR has set
+-- the attributes at a position: those that SGR has set, changed by the overstrikes there
 abbrev pub struck_look : Look → Struck → Look
 struck_look look s = record look { bold = look.bold || s.bold; underline = if s.underlined then Some Single else look.underline }
 

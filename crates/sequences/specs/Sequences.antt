@@ -26,12 +26,13 @@ csi_end text = prefix_len is_parameter text + prefix_len is_intermediate (drop (
 abbrev pub csi_len : List ℕ → Option ℕ
 csi_len text = if is_csi_final (slice_index text (csi_end text)) then Some (csi_end text + 1) else None
 
--- an escape sequence: any intermediates and a final character
+-- the length of an escape sequence, which is any intermediates and a final character, or `None` if there is
+-- none
 abbrev pub escape_len : List ℕ → Option ℕ
 escape_len text =
     if is_escape_final (slice_index text (prefix_len is_intermediate text)) then Some (prefix_len is_intermediate text + 1) else None
 
--- the number of characters of a control string
+-- the number of characters of a control string before its terminator
 abbrev pub string_end : List ℕ → ℕ
 string_end text = prefix_len is_inline text
 
@@ -65,7 +66,7 @@ string_len is_osc text =
 abbrev pub opens_string : ℕ → Bool
 opens_string c = c == 0x50 || (c == 0x58 || (c == 0x5D || (c == 0x5E || c == 0x5F)))
 
--- the length, without ESC, of the sequence that consists of ESC and the start of a text
+-- the length, without ESC, of the sequence that ESC and the start of a text form, or `None` if they form none
 abbrev pub len_after_escape : List ℕ → Option ℕ
 len_after_escape [] = None
 len_after_escape (c ∷ text) =

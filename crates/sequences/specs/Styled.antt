@@ -10,7 +10,7 @@ use Rattle.sequences.specs.Overstrikes.{is_underlined_only, strikes, struck, str
 use Rattle.sequences.specs.declared.look.Look.{Look}
 use Rattle.sequences.specs.declared.look.TheConstants.{PLAIN}
 
--- attributes and a link, which is its parameters, a semicolon and its URI, or is empty if there is none
+-- attributes and a link; a link is its parameters, a semicolon and its URI, and is empty if there is none
 pub record Style : Type 0 where
   pub look : Look
   pub link : List ℕ
@@ -18,8 +18,8 @@ pub record Style : Type 0 where
 abbrev pub DEFAULT : Style
 DEFAULT = record { look = PLAIN; link = [] }
 
--- The state that a text passes to the text after it: a style, the total length of the links of the paragraph
--- so far, and whether the last character is underlined and not bold.
+-- The state that a text passes on to the next: a style, the total length of the paragraph's links so far, and
+-- whether the last character is underlined and not bold.
 pub record Pen : Type 0 where
   pub style : Style
   pub links_len : ℕ

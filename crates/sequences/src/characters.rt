@@ -5,7 +5,7 @@ ghost use Rattle.sequences.specs.Characters.{ends_piece, is_c1_introducer, is_co
 ghost use Rattle.sequences.specs.Characters.{is_kept_control};
 ghost use Rattle.sequences.specs.Classes.{is_in};
 
-/// Classes of characters. `prefix_len` counts the characters of a class that a text begins with.
+/// Classes of characters. `prefix_len` counts how many characters of a class a text begins with.
 #[derive(Clone, Copy)]
 pub(crate) enum Class {
     Parameter,

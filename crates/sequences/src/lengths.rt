@@ -30,7 +30,8 @@ pub fn sequence_len(text: &[char]) -> Option<usize>
     }
 }
 
-// Returns the length of a sequence without its ESC, given the code after ESC and the text after that.
+// Returns the length of a sequence without its ESC, or `None` if it is not complete. `code` is the code after
+// ESC, and `rest` is the text after that.
 fn len_after_escape(code: u32, rest: &[char]) -> Option<usize>
     ensures len { result ≡ len_after_escape (code ∷ rest.now) }
     ensures within { IfSome result (λ n. n ≤ length (code ∷ rest.now)) }
@@ -67,7 +68,7 @@ fn is_csi_final(c: char) -> bool
     '@' <= c && c <= '~'
 }
 
-// Returns the length of a control sequence without its introducer.
+// Returns the length of a control sequence without its introducer, or `None` if it has no final character.
 fn csi_len(text: &[char]) -> Option<usize>
     ensures len { result ≡ csi_len text.now }
     ensures within { IfSome result (λ n. n ≤ length text.now) }
@@ -92,7 +93,8 @@ fn is_escape_final(code: u32) -> bool
     0x30 <= code && code <= 0x7e
 }
 
-// Returns the length of an escape sequence without its ESC, given the code after ESC and the text after that.
+// Returns the length of an escape sequence without its ESC, or `None` if it has no final character. `code` is
+// the code after ESC, and `rest` is the text after that.
 fn escape_len(code: u32, rest: &[char]) -> Option<usize>
     ensures len { result ≡ escape_len (code ∷ rest.now) }
     ensures within { IfSome result (λ n. n ≤ length (code ∷ rest.now)) }
@@ -108,7 +110,7 @@ fn escape_len(code: u32, rest: &[char]) -> Option<usize>
     }
 }
 
-/// Returns the number of characters of a string, given the text after its introducer.
+/// Returns the number of characters of a string before its terminator, given the text after its introducer.
 pub(crate) fn string_end(text: &[char]) -> usize
     ensures end { result ≡ string_end text.now }
     ensures within { result ≤ length text.now }
@@ -131,7 +133,8 @@ pub(crate) fn terminator_len(is_osc: bool, text: &[char]) -> usize
     }
 }
 
-// Returns the length of a string, including its terminator but not its introducer.
+// Returns the length of a string, including its terminator but not its introducer, or `None` if it is
+// incomplete.
 fn string_len(is_osc: bool, text: &[char]) -> Option<usize>
     ensures len { result ≡ string_len is_osc text.now }
     ensures within { IfSome result (λ n. n ≤ length text.now) }
@@ -147,7 +150,8 @@ fn string_len(is_osc: bool, text: &[char]) -> Option<usize>
     }
 }
 
-// Returns the length of an overlong string after its first characters, including its terminator.
+// Returns the length of an overlong string, including its terminator, without the characters that
+// `string_end` counts.
 fn long_len(is_osc: bool, text: &[char]) -> usize
     ensures len { result ≡ long_len is_osc text.now }
     ensures within { result ≤ length text.now }

@@ -11,7 +11,7 @@ pub enum Color {
     Rgb(u8, u8, u8),
 }
 
-/// A kind of underline, in the order of `4:1` to `4:5`.
+/// The kinds of underline, in the order of their parameters `4:1` to `4:5`.
 #[derive(Clone, Copy, Debug, PartialEq, Eq)]
 pub enum Underline {
     Single,

@@ -58,7 +58,8 @@ fn strike(after_underline: bool, at: Struck, c: char) -> Struck
     }
 }
 
-// Returns the character that follows a BS at the start of a text, and the text after it.
+// Returns the character that follows a BS at the start of a text, and the text after it, or `None` if there
+// is no such character.
 fn after_backspace(text: &[char]) -> Option<(char, &[char])>
     ensures { MatchOption result (after_backspaces text.now ≡ []) (λ found.
         (after_backspaces text.now ≡ found.0 ∷ after_backspaces found.1.now)
@@ -113,7 +114,7 @@ pub(crate) fn is_underlined_only(look: Look) -> bool
     look.underline.is_some() && !look.bold
 }
 
-// Returns the attributes at a position, given the attributes that SGR has set.
+// Returns the attributes at a position: those that SGR has set, changed by the overstrikes there.
 pub(crate) fn struck_look(look: Look, at: Struck) -> Look
     ensures { result ≡ struck_look look at }
 {

@@ -61,7 +61,7 @@ impl Scanner {
         self.link = self.text.clear(self.link);
     }
 
-    // Sets the link of the text that follows.
+    // Sets the link of the text that follows, or no link if the limit would be exceeded.
     fn set_link(&mut self, link: &[char]) -> Result<(), AllocError>
         ensures text { styled_of self.new.text ≡ styled_of self.old.text }
         ensures pen { OnOk result (pen_of self.new ≡ with_link (pen_of self.old) (Some link.now)) }
@@ -212,7 +212,7 @@ impl Scanner {
 }
 
 // Returns the code that follows ESC at the start of a text, and the text from the last character of the
-// introducer on. A C1 control is read as its ESC form.
+// introducer on. A C1 control is read as its ESC form. Returns `None` for an empty text and for ESC alone.
 fn after_escape(text: &[char]) -> Option<(u32, &[char])>
     ensures { MatchOption result (after_escape text.now ≡ []) (λ found.
         (after_escape text.now ≡ found.0 ∷ drop 1 found.1.now) × (0 < length found.1.now)) }
@@ -242,8 +242,8 @@ fn sgr_parameters(sequence: &[char]) -> Option<&[char]>
     }
 }
 
-// Returns the length of a prefix of a text whose characters are all shown unchanged. A longer prefix may
-// exist.
+// Returns the length of a prefix that contains no dropped controls, and that no overstrike follows. A longer
+// one may exist.
 fn plain_len(text: &[char]) -> usize
     ensures within { result ≤ length text.now }
     ensures kept { list_all (λ c. not (is_dropped c)) (take result text.now) ≡ true }

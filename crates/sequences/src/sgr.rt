@@ -43,7 +43,7 @@ fn changed(look: Look, parameter: &[char], following: &[char]) -> Look
     }
 }
 
-// Returns the number of following parameters that belong to a parameter.
+// Returns how many of the following parameters belong to a parameter.
 fn taken(parameter: &[char], following: &[char]) -> usize
     ensures { result ≡ taken (fields_after parameter.now) (parameters_after following.now) }
 {
@@ -60,7 +60,7 @@ fn taken(parameter: &[char], following: &[char]) -> usize
     }
 }
 
-// Returns the number of following parameters that belong to 38, 48 or 58: all of them if the kind of color is
+// Returns how many of the following parameters belong to 38, 48 or 58: all of them if the kind of color is
 // unknown.
 fn color_len(following: &[char]) -> usize
     ensures { result ≡ color_len (parameters_after following.now) }
@@ -124,7 +124,7 @@ fn rgb(r: u32, g: u32, b: u32) -> Option<Color>
     }
 }
 
-// Returns the color that some parameters begin with, if its kind is known and its values are valid.
+// Returns the color that some parameters begin with, or `None` if its kind is unknown or a value is invalid.
 fn color_after(following: &[char]) -> Option<Color>
     ensures { result ≡ color_of (map single (parameters_after following.now)) }
 {
@@ -139,7 +139,7 @@ fn color_after(following: &[char]) -> Option<Color>
     }
 }
 
-// Returns the attributes after a parameter with one field, which is not 38, 48 or 58.
+// Returns the attributes after a parameter with one field, other than 38, 48 and 58.
 fn with_parameter(n: u32, look: Look) -> Look
     ensures { result ≡ with_parameter n look }
 {
@@ -334,7 +334,8 @@ fn with_fields(n: u32, parameter: &[char], look: Look) -> Look
     }
 }
 
-// Returns the color of a parameter with several fields, if its kind is known and its values are valid.
+// Returns the color of a parameter with several fields, or `None` if its kind is unknown or a value is
+// invalid.
 fn field_color(parameter: &[char]) -> Option<Color>
     ensures { result ≡ field_color (drop 1 (fields_after parameter.now)) }
 {

@@ -38,7 +38,7 @@ pub struct StyleRef<'a> {
 pub struct StyledText {
     pub characters: Vec<char>,
     pub runs: Vec<StyleRun>,
-    /// The links of the runs.
+    /// The links of the runs, one after the other.
     pub links: Vec<char>,
     ghost starts: { All (λ run. run.start ≤ length characters.items) runs.items },
     ghost linked: { All (λ run. run.link.start + run.link.len ≤ length links.items) runs.items },
@@ -82,7 +82,7 @@ impl StyledText {
         Ok(())
     }
 
-    /// Returns the style of a run.
+    /// Returns the style of the run at an index.
     pub fn run_style(&self, run: usize) -> StyleRef<'_>
         requires { run < length self.now.runs.items }
         ensures { (d : StyleRun) → style_by result

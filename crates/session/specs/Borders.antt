@@ -1,4 +1,4 @@
--- The starts and ends of paragraphs as borders: how many paragraphs, characters and lines come before each.
+-- Borders: starts and ends of paragraphs, with the numbers of paragraphs, characters and lines before them.
 use Rattle.std.specs.Prelude.{◌≡◌, ℕ, ◌+◌, ◌-◌, ◌<◌, ◌≤◌, List, length, take}
 use Rattle.lines.specs.Layouts.{Layout}
 use Rattle.session.specs.Kept.{pars_of, lines_in}
@@ -24,7 +24,7 @@ pub record IsBackBorder (kept : List Layout) (to : ℕ) (border : Border) : Type
   pub before : (i : ℕ) → i < border.index → start_of (pars_of kept) i ≤ to
   pub after : border.index < length kept → to < border.chars
 
--- the damage of an edit that puts new paragraphs in place of those between two borders
+-- the damage of an edit that replaces the paragraphs between two borders with the paragraphs `fresh`
 abbrev pub damage_between : Border → Border → List Layout → Damage
 damage_between front back fresh = record {
   first_line = front.lines;

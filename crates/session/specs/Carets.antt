@@ -1,4 +1,4 @@
--- Where to draw a caret before a character.
+-- Where a caret before a character, or at the end of the text, is drawn.
 use Rattle.std.specs.Prelude.{ℕ, ◌+◌, nat_lt, List, [], length, slice_get, slice_index, Option, Some, None, option_map, if◌then◌else◌}
 use Rattle.lines.specs.Columns.{columns_left}
 use Rattle.lines.specs.Layouts.{Layout, Rules, base_of}
@@ -30,8 +30,7 @@ caret_in line place =
     then record { line = place.line; column = leading_edge line place.offset; level = slice_index line.levels place.offset }
     else line_end place.line line
 
--- the caret at a place in a line, or at column 0 of the line after the last, where an empty paragraph would
--- start
+-- the caret at a place in a line; if the line does not exist yet, as for a new paragraph, in column 0
 abbrev pub caret_on : Rules → Option Visual → Place → Caret
 caret_on rules (Some line) place = caret_in line place
 caret_on rules None place = record { line = place.line; column = 0; level = base_of rules [] }

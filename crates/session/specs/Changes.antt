@@ -1,4 +1,4 @@
--- Which of the damaged lines of a call differ from before.
+-- Which of the lines in the damage of a call have changed.
 use Rattle.std.specs.Prelude.{◌≢◌, ℕ, ◌+◌, ◌-◌, ◌<◌, ◌≤◌, List, length, min, slice_get}
 use Rattle.std.specs.List.{All}
 use Rattle.lines.specs.Layouts.{Layout}
@@ -20,19 +20,19 @@ pub record AreChanged (old new : List Visual) (damage : Damage) (changed : Chang
   pub last_differs : 0 < changed.old_lines → 0 < changed.new_lines
       → slice_get old (changed.first_line + changed.old_lines - 1) ≢ slice_get new (changed.first_line + changed.new_lines - 1)
 
--- no lines have changed
+-- the value for no changed lines
 abbrev pub no_lines : ChangedLines
 no_lines = record { first_line = 0; old_lines = 0; new_lines = 0 }
 
--- all lines have changed, as right after a session is opened
+-- all lines as changed lines: the value right after a session is opened
 abbrev pub all_lines : List Layout → ChangedLines
 all_lines kept = record { first_line = 0; old_lines = 0; new_lines = length (lines_in kept) }
 
--- whether a paragraph has a line
+-- whether a paragraph has at least one line
 abbrev pub HasLines : Layout → Type 0
 HasLines l = 0 < length l.lines
 
--- the damaged lines after unchanged ones are trimmed from their start, and then from their end
+-- the damaged lines without up to `start` lines at their start and then up to `end` lines at their end
 abbrev pub without_same : Damage → ℕ → ℕ → ChangedLines
 without_same damage start end =
     let most = min damage.old_lines damage.new_lines in
@@ -40,6 +40,6 @@ without_same damage start end =
     let back = min end (most - front) in
     record { first_line = damage.first_line + front; old_lines = damage.old_lines - front - back; new_lines = damage.new_lines - front - back }
 
--- whether `changed` are the lines that changed between two lists of paragraphs, if each paragraph has a line
+-- whether `changed` are the changed lines as in `AreChanged`, if each paragraph has at least one line
 abbrev pub AreFound : List Layout → List Layout → Damage → ChangedLines → Type 0
 AreFound old new damage changed = All HasLines old → All HasLines new → AreChanged (lines_in old) (lines_in new) damage changed

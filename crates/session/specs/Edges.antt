@@ -31,12 +31,12 @@ abbrev pub is_edge_at : ℕ → Side → Bool
 is_edge_at pos Before = true
 is_edge_at pos After = not (pos == 0)
 
--- whether an edge exists in a text of `chars` characters: a `Before` edge at any position up to the end, or
--- an `After` edge at any of these positions except 0
+-- whether an edge exists in a text of `chars` characters: its position is not past the end and, for an
+-- `After` edge, not 0
 abbrev pub is_edge_in : ℕ → Edge → Bool
 is_edge_in chars edge = nat_le edge.pos chars && is_edge_at edge.pos edge.side
 
--- whether an edge on a side of `pos` belongs to a character of a text of `chars` characters
+-- whether a text of `chars` characters has a character on a side of `pos`: at `pos`, or before it
 abbrev pub IsBeside : ℕ → ℕ → Side → Type 0
 IsBeside chars pos Before = pos < chars
 IsBeside chars pos After = (0 < pos) × (pos ≤ chars)
@@ -87,21 +87,21 @@ module _ (kept : List Layout) where
   abbrev pub unit_in : Visual → ℕ → ℕ → Option CaretUnit
   unit_in line start k = option_map (λ cluster. unit_of line start cluster k) (cluster_at kept (start + k))
 
-  -- the unit that covers a column of a line
+  -- the unit that covers a column of a line that starts at `start`; `None` if no unit does
   abbrev pub unit_at : Visual → ℕ → ℕ → Option CaretUnit
   unit_at line start column = option_and_then (λ place. unit_in line start (slice_index line.vtol place)) (covering line column)
 
-  -- the caret on a side of the character at `pos`, whose place in the text is `place`
+  -- the caret on a side of the character at `pos`; `place` is the place of that character
   abbrev pub caret_of : Side → ℕ → Place → Option Caret
   caret_of side pos place = option_and_then (λ line. option_map (caret_beside side place.line line (pos - place.offset) place.offset) (cluster_at kept pos)) (slice_get (lines_in kept) place.line)
 
-  -- The edge after a step from a column of a line: the far end of the next unit in that direction.
+  -- the edge after a step from a column of a line: the far end of the next unit in the direction, or `None`
   abbrev pub step_on : Visual → ℕ → ℕ → Direction → Option Edge
   step_on line start column Right = option_map (right_edge start) (unit_at line start column)
   step_on line start zero Left = None
   step_on line start (suc column) Left = option_map (left_edge start) (unit_at line start column)
 
-  -- the edge at a column, given the units that cover this column and the last column
+  -- the edge at a column, given the units, if any, that cover the column and the line's last column
   abbrev pub edge_by : ℕ → Option CaretUnit → Option CaretUnit → Edge
   edge_by start (Some unit) last = left_edge start unit
   edge_by start None (Some unit) = right_edge start unit
@@ -110,7 +110,7 @@ module _ (kept : List Layout) where
   abbrev pub edge_on : Visual → ℕ → ℕ → Edge
   edge_on line start column = edge_by start (unit_at line start column) (unit_at line start (columns_left line (length line.vtol) - 1))
 
-  -- the edge nearest to a column, given the units that cover this column and the last column
+  -- the edge nearest to a column, given the units, if any, that cover the column and the line's last column
   abbrev pub nearest_by : ℕ → ℕ → Option CaretUnit → Option CaretUnit → Edge
   nearest_by start column (Some unit) last = nearer_edge start column unit
   nearest_by start column None last = edge_by start None last
@@ -118,7 +118,7 @@ module _ (kept : List Layout) where
   abbrev pub nearest_on : Visual → ℕ → ℕ → Edge
   nearest_on line start column = nearest_by start column (unit_at line start column) (unit_at line start (columns_left line (length line.vtol) - 1))
 
--- whether line n is the line after the last one, and a new paragraph would start at the end of the text
+-- whether line n would be the first line of a new paragraph at the end of the text
 abbrev pub is_next : Rules → List Layout → ℕ → Bool
 is_next rules kept n = (n == length (lines_in kept)) && is_closed rules (text_of kept)
 
@@ -134,7 +134,7 @@ edge_caret_by rules kept After (suc pos) = if nat_le (length (text_of kept)) pos
 abbrev pub edge_caret_at : Rules → List Layout → Edge → Option Caret
 edge_caret_at rules kept edge = edge_caret_by rules kept edge.side edge.pos
 
--- the edge after a step from an edge, if there is one
+-- the edge after a step from an edge; `None` if there is none in that direction, or the edge has no caret
 abbrev pub step_at : Rules → List Layout → Edge → Direction → Option Edge
 step_at rules kept edge direction =
     option_and_then (λ caret. option_and_then (λ found. step_on kept found.0 found.1 caret.column direction) (line_at kept caret.line))
@@ -156,9 +156,10 @@ nearest_edge rules kept n column =
 abbrev pub end_of : List Layout → ℕ → ℕ
 end_of kept n = unwrap_or (slice_get (line_starts kept) (suc n)) (length (text_of kept))
 
--- The last edge of a line from `start` up to `end`, of which `visible` characters are shown. It is before the
--- separator that ends the line, if there is one. Otherwise, on the text's last line, it is before the end of
--- the text. On other lines, it is before the first space that is not shown, or else after the last character.
+-- The last edge of the line from position `start` up to `end`, which shows `visible` characters. The edge is
+-- before the separator that ends the line, if there is one. Otherwise, on the text's last line, it is before
+-- the end of the text. On other lines, it is before the first space that is not shown, or else after the last
+-- character.
 abbrev pub last_edge : Rules → List ℕ → ℕ → ℕ → ℕ → Edge
 last_edge rules text start end visible =
     let separators = separator_len rules.tables (slice_index text (max (end - 2) start)) (slice_index text (end - 1)) in
@@ -166,7 +167,7 @@ last_edge rules text start end visible =
     else (if end == length text then before end
     else (if nat_lt visible (end - start) then before (start + visible) else after end)))
 
--- the first and the last edge of line n, in logical order; `None` past the line with the end of the text
+-- the first and last edge of line n, in logical order; `None` past the line that contains the end of the text
 abbrev pub line_edges : Rules → List Layout → ℕ → Option LineEdges
 line_edges rules kept n =
     let next = before (length (text_of kept)) in

@@ -47,23 +47,23 @@ abbrev pub have_room : List ℕ → List (List ℕ) → Bool
 have_room advances [] = true
 have_room advances (p ∷ pars) = nat_lt (sum (take (length p) advances)) (2 ^ 32) && have_room (drop (length p) advances) pars
 
--- the reason for refusing the advances of paragraphs, or `None` if they are not refused
+-- the reason for refusing the advances of paragraphs, or `None`; there is none if the text is not measured
 abbrev pub room_refusal : Option (List ℕ) → List (List ℕ) → Option EditFault
 room_refusal None pars = None
 room_refusal (Some advances) pars = if have_room advances pars then None else Some ParagraphTooLong
 
--- the reason for refusing the paragraphs of a text, if they are refused, given the text's advances if it is
+-- the reason for refusing the paragraphs of a text, or `None`; `advances` are those of the text if it is
 -- measured
 abbrev pub paragraphs_refusal : (ℕ → ℕ → Bool) → Option (List ℕ) → List ℕ → Option EditFault
 paragraphs_refusal is_cut advances text = if is_within_limit is_cut text then room_refusal advances (paragraphs is_cut text) else Some ParagraphTooLong
 
--- the reason for refusing a text, if it is refused, given the text's advances if it is measured
+-- the reason for refusing a text, or `None`; `advances` are those of the text if it is measured
 abbrev pub content_refusal : (ℕ → ℕ → Bool) → Option (List ℕ) → List ℕ → Option EditFault
 content_refusal is_cut advances text =
     if nat_lt TEXT_LIMIT (length text) then Some TextTooLong
     else paragraphs_refusal is_cut advances text
 
--- the reason for refusing a text that is not measured, if it is refused
+-- the reason for refusing a text that is not measured, or `None`
 abbrev pub text_refusal : (ℕ → ℕ → Bool) → List ℕ → Option EditFault
 text_refusal is_cut text = content_refusal is_cut None text
 

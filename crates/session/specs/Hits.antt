@@ -8,8 +8,8 @@ use Rattle.session.specs.Kept.{lines_in}
 use Rattle.session.specs.Places.{line_starts}
 use Rattle.session.specs.declared.hits.Hit.{Hit}
 
--- the visual position of the character that covers the last column of a line, which is its rightmost
--- character of nonzero width
+-- the visual position of a line's rightmost character of nonzero width, which covers the last column; `None`
+-- if there is no such character
 abbrev pub rightmost : Visual → Option ℕ
 rightmost line = covering line (columns_left line (length line.vtol) - 1)
 
@@ -27,7 +27,7 @@ hit_by start line None None = record { pos = start; trailing = false }
 abbrev pub hit_in : ℕ → Visual → ℕ → Hit
 hit_in start line column = hit_by start line (covering line column) (rightmost line)
 
--- the hit at a column of a line, if the line exists
+-- the hit at a column of a line; `None` if the line does not exist
 abbrev pub hit_of : Option ℕ → Option Visual → ℕ → Option Hit
 hit_of (Some start) (Some line) column = Some (hit_in start line column)
 hit_of start line column = None

@@ -4,7 +4,7 @@ use Rattle.std.specs.Str.{chars}
 use Rattle.lines.specs.Measures.{given_if}
 use Rattle.session.specs.declared.joined.Part.{Part}
 
--- the text joined from a part, a piece given as UTF-8 bytes, and another part
+-- the text of the three parts, joined; the inserted text is given as UTF-8 bytes
 abbrev pub joined_text : Part → List ℕ → Part → List ℕ
 joined_text front piece back = front.text.now ++ (chars piece ++ back.text.now)
 

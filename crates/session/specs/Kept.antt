@@ -29,11 +29,11 @@ lines_in kept = flat_map visuals kept
 abbrev pub advance_lists : List Layout → List (List ℕ)
 advance_lists kept = map (λ l. unwrap_or l.advances []) kept
 
--- the advances of a text, if it is measured
+-- the advances of a text; `None` if it is not measured
 abbrev pub advances_in : Bool → List Layout → Option (List ℕ)
 advances_in is_measured kept = given_if is_measured (concat (advance_lists kept))
 
--- the advances with which a text of n characters is opened: all are 0 if it is measured
+-- the advances with which a text of n characters is opened: all 0 if it is measured, and otherwise `None`
 abbrev pub first_advances : Bool → ℕ → Option (List ℕ)
 first_advances is_measured n = given_if is_measured (replicate n 0)
 
@@ -63,7 +63,7 @@ layouts_from rules width advances [] = []
 layouts_from rules width advances (p ∷ pars) =
     layout_of (with_advances rules (front_advances (length p) advances)) width p ∷ layouts_from rules width (back_advances (length p) advances) pars
 
--- the fresh layouts of a text at a width
+-- the fresh layouts of a text at a width; the rules hold its advances if it is measured
 abbrev pub layouts_of : Rules → ℕ → List ℕ → List Layout
 layouts_of rules width text = layouts_from (with_advances rules None) width rules.advances (paragraphs (cut_by rules) text)
 
@@ -94,7 +94,7 @@ pub record ReflowState : Type 0 where
   pub by : Writer
   pub written : ℕ
 
--- a layout after its lines are rewritten from the given extents, if there are any
+-- a layout after its lines are rewritten from the given extents; without extents, the layout is unchanged
 abbrev pub put_into : Writer → Layout → Option LineExtents → Layout
 put_into writer kept None = kept
 put_into writer kept (Some extents) = reflowed writer.rules kept extents
@@ -104,7 +104,7 @@ abbrev pub taken_from : Layout → Option LineExtents → Option LineExtents
 taken_from kept None = None
 taken_from kept (Some extents) = Some (extents_in kept.lines)
 
--- the number of characters whose lines are written from the given extents
+-- the number of characters whose lines are written: 0 without extents, and otherwise all of the paragraph
 abbrev pub written_for : Layout → Option LineExtents → ℕ
 written_for kept None = 0
 written_for kept (Some extents) = length kept.text
@@ -121,8 +121,8 @@ pub record CanBePut (writer : Writer) (kept : Layout) (extents : LineExtents) : 
   pub at_width : (width : ℕ) × (extents ≡ extents_of (rules_for writer.rules kept) width kept.text)
   pub capacity : length kept.text ≤ writer.capacity
 
--- Whether the extents are those of the paragraph at a width. A paragraph that keeps its only line has no
--- extents, and its line is already the line at that width.
+-- Whether the extents are those of the paragraph's lines at a width. They are `None` if the paragraph keeps
+-- its only line, which is then already its line at that width.
 abbrev pub BringsTo : Rules → ℕ → Layout → Option LineExtents → Type 0
 BringsTo rules width kept None = (keeps_lines rules width kept ≡ true) × (kept.lines ≡ lines_of (rules_for rules kept) width kept.text)
 BringsTo rules width kept (Some extents) = (keeps_lines rules width kept ≡ false) × (extents ≡ extents_of (rules_for rules kept) width kept.text)

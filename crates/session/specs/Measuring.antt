@@ -1,4 +1,4 @@
--- What the calls for measured text do.
+-- What the calls that set the width or the advances of a measured session do.
 use Rattle.std.specs.Prelude.{◌≡◌, ℕ, ◌+◌, ◌-◌, ◌<◌, ◌≤◌, nat_lt, Bool, List, ◌++◌, length, take, Option, Some, None, option_map, if◌then◌else◌}
 use Rattle.std.specs.List.{concat, slice_range}
 use Rattle.bidi.specs.Cuts.{paragraphs}
@@ -15,17 +15,17 @@ use Rattle.session.specs.declared.edits.AdvanceFault.TheVariants.{NotMeasured, O
 use Rattle.session.specs.declared.edits.Damage.{Damage}
 use Rattle.session.specs.declared.measuring.Spliced.{Spliced}
 
--- the reason for refusing to set a width, if there is one, given the session's advances if it is measured
+-- the reason for refusing to set a width, or `None`; `advances` are those of the session if it is measured
 abbrev pub measured_width_refusal : Option (List ℕ) → ℕ → Option AdvanceFault
 measured_width_refusal None width = Some NotMeasured
 measured_width_refusal (Some advances) width = if is_no_width width then Some WidthOutOfRange else None
 
--- the error that is returned: the reason for a refusal, or `NoMemory` if there is none
+-- whether a call may return this error: the reason for a refusal, or `NoMemory` if there is none
 abbrev pub IsFaultFor : Option AdvanceFault → AdvanceFault → Type 0
 IsFaultFor reason NoMemory = reason ≡ None
 IsFaultFor reason fault = reason ≡ Some fault
 
--- After a refusal, the engine is unchanged. After `NoMemory`, the engine's work is within a bound.
+-- After a refusal, the engine is unchanged. After `NoMemory`, `bound` limits the engine's work.
 abbrev pub IsBoundedFor : AdvanceFault → (Engine → Engine → Type 0) → Engine → Engine → Type 0
 IsBoundedFor NoMemory bound old new = bound old new
 IsBoundedFor fault bound old new = new ≡ old
@@ -52,8 +52,7 @@ SetsMeasuredWidthNot width old = Remains (measured_width_refusal old.advances wi
 abbrev pub advances_set : List ℕ → ℕ → List ℕ → List ℕ
 advances_set old pos list = replaced old (replacing pos (length list) list)
 
--- the reason for refusing to set advances, if there is one, given the session's old advances if it is
--- measured
+-- the reason for refusing to set advances, or `None`; `old` are the advances of the session if it is measured
 abbrev pub advances_refusal : (ℕ → ℕ → Bool) → Option (List ℕ) → List ℕ → ℕ → List ℕ → Option AdvanceFault
 advances_refusal is_cut None text pos list = Some NotMeasured
 advances_refusal is_cut (Some old) text pos list =
@@ -61,7 +60,7 @@ advances_refusal is_cut (Some old) text pos list =
     else (if have_room (advances_set old pos list) (paragraphs is_cut text) then None else Some ParagraphTooLong)
 
 -- Whether `number` adjacent paragraphs cover a range: the first of them contains the range's first character,
--- and the last contains the range's last character. An empty range has no paragraphs.
+-- and the last contains the range's last character. For an empty range, `first` and `number` are 0.
 pub record Cover (pars : List (List ℕ)) (pos count first number : ℕ) : Type 0 where
   pub none : count ≡ 0 → (first ≡ 0) × (number ≡ 0)
   pub within : first + number ≤ length pars
@@ -79,7 +78,7 @@ pub record IsMeasuredDamage (pos count : ℕ) (old new : List Layout) (damage : 
   pub pars : Replaces old new damage.first_par damage.old_pars damage.new_pars
   pub lines : Replaces (lines_in old) (lines_in new) damage.first_line damage.old_lines damage.new_lines
 
--- the number of characters in the paragraphs from one index to another
+-- the number of characters in the paragraphs from index `first` up to `end`
 abbrev pub covered_chars : List Layout → ℕ → ℕ → ℕ
 covered_chars kept first end = length (concat (slice_range (pars_of kept) first end))
 

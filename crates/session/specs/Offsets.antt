@@ -28,8 +28,8 @@ units_of encoding kept = length_in encoding kept.text
 abbrev pub offset_of : Encoding → List ℕ → ℕ → Option ℕ
 offset_of encoding text pos = if nat_lt (length text) pos then None else Some (length_in encoding (take pos text))
 
--- The last position with at most `offset` units before it, and how many units of the character there precede
--- the offset; `None` past the end.
+-- the last position with at most `offset` units before it, and how many units of the character at that
+-- position precede the offset; `None` past the end
 abbrev pub position_of : Encoding → List ℕ → ℕ → Option (ℕ × ℕ)
 position_of encoding text offset =
     if nat_lt (length_in encoding text) offset then None

@@ -5,7 +5,7 @@ use Rattle.lines.specs.Layouts.{cut_by, Layout, Rules}
 use Rattle.session.specs.Kept.{lines_in, text_of}
 use Rattle.session.specs.declared.places.Place.{Place}
 
--- the starts of the lines in a list of paragraphs whose first one starts at `place`
+-- the starts of the lines in a list of paragraphs whose first paragraph starts at `place`
 abbrev pub lines_from : ℕ → List Layout → List ℕ
 lines_from place [] = []
 lines_from place (l ∷ kept) = map (λ line. place + line.start) l.lines ++ lines_from (place + length l.text) kept
@@ -40,7 +40,7 @@ place_in kept pos = record {
   offset = pos - slice_index (line_starts kept) (count_to pos (line_starts kept) - 1);
 }
 
--- the place after the last paragraph and the last line
+-- the place of the end of the text if a new paragraph would start there
 abbrev pub next_place : List Layout → Place
 next_place kept = record { paragraph = length kept; line = length (lines_in kept); offset = 0 }
 
@@ -52,7 +52,7 @@ is_closed rules text =
     length text == 0 || cut_by rules last last
 
 -- The paragraph, line and offset of a position in a text. The end of the text is placed after the last
--- character or, if a new paragraph would start there, at the start of that paragraph.
+-- character or, if a new paragraph would start there, at the start of that paragraph. `None` past the end.
 abbrev pub place_at : Rules → List Layout → ℕ → Option Place
 place_at rules kept pos =
     if nat_lt (length (text_of kept)) pos then None

@@ -16,8 +16,8 @@ lines_page state first count print = flat_map (line_bytes state.width print) (sl
 abbrev pub HasLines : SessionState → ℕ → ℕ → Type 0
 HasLines state first count = first + count ≤ length (lines_in state.kept)
 
--- Why nothing or only part was written. `OutOfRange` means that the range is past the end, and that nothing
--- was written. `Write` means that the range exists, and that the sink failed.
+-- What an error means for a range of lines or characters. `OutOfRange`: the range reaches past the end, and
+-- nothing was written. `Write`: the range exists, and the sink failed.
 abbrev pub WritesNot : ℕ → ℕ → ℕ → Type 0 → (ℕ → Type 0) → RangeFault → Type 0
 WritesNot size first count untouched stopped OutOfRange = (size < first + count) × untouched
 WritesNot size first count untouched stopped (Write fault) = (first + count ≤ size) × stopped fault.written

@@ -11,7 +11,7 @@ abbrev pub paragraph_end : List Layout → ℕ → ℕ
 paragraph_end kept pos = start_of (pars_of kept) (count_to pos (paragraph_starts kept))
 
 -- the characters of a range that are in the same paragraph as the range's first character; `None` if the
--- range is past the end
+-- range reaches past the end
 abbrev pub text_part : List Layout → ℕ → ℕ → Option (List ℕ)
 text_part kept pos count =
     if nat_lt (length (text_of kept)) (pos + count) then None
@@ -21,6 +21,6 @@ text_part kept pos count =
 abbrev pub utf8_part : List Layout → ℕ → ℕ → List ℕ
 utf8_part kept pos count = encode_utf8_all (slice_range (text_of kept) pos (pos + count))
 
--- the length in bytes of a range as UTF-8; `None` if the range is past the end
+-- how many bytes a range has in UTF-8; `None` if the range reaches past the end
 abbrev pub utf8_len : List Layout → ℕ → ℕ → Option ℕ
 utf8_len kept pos count = if nat_lt (length (text_of kept)) (pos + count) then None else Some (length (utf8_part kept pos count))

@@ -14,7 +14,7 @@ use Rattle.session.specs.declared.edits.Edit.TheVariants.{Insert, Delete, SetWid
 use Rattle.session.specs.declared.edits.EditFault.{EditFault}
 
 module _ (rules : Rules) where
-  -- the reason for refusing an edit, if it is refused
+  -- the reason for refusing an edit, or `None`
   abbrev pub edit_refusal : Held → Edit → Option EditFault
   edit_refusal held (Insert pos text) = refusal (cut_by rules) held.advances held.text (insertion pos (chars text.now))
   edit_refusal held (Delete pos count) = refusal (cut_by rules) held.advances held.text (deletion pos count)

@@ -16,8 +16,8 @@ use Rattle.session.specs.declared.edits.Damage.{Damage}
 use Rattle.session.specs.declared.edits.EditFault.{EditFault}
 use Rattle.session.specs.declared.edits.EditFault.TheVariants.{WidthOutOfRange, NoMemory}
 
--- the state of a session: its engine, its width, the advances of its characters if it is measured, the layout
--- of each paragraph, and the lines that the last successful call changed
+-- the state of a session; `advances` is `None` if it is not measured, `kept` has the layout of each
+-- paragraph, and `changed` are the lines that the last successful call changed
 pub record SessionState : Type 0 where
   pub engine : Engine
   pub width : ℕ
@@ -25,7 +25,7 @@ pub record SessionState : Type 0 where
   pub kept : List Layout
   pub changed : ChangedLines
 
--- the state of a session with the given engine, width and layouts, and without changed lines
+-- the state of a session with the given engine, width and layouts, in which no lines have changed
 abbrev pub state_of : Engine → ℕ → Bool → List Layout → SessionState
 state_of engine width is_measured kept = record { engine = engine; width = width; advances = advances_in is_measured kept; kept = kept; changed = no_lines }
 
@@ -67,7 +67,7 @@ pub record IsWholeLayout (state : SessionState) : Type 0 where
   pub filled : 0 < state.width
   pub advances : AreForEach state.advances (text_at state)
 
--- the reason for refusing to open a session on a text at a width, if there is one
+-- the reason for refusing to open a session on a text at a width, or `None`
 abbrev pub opening_refusal : (ℕ → ℕ → Bool) → List ℕ → ℕ → Option EditFault
 opening_refusal is_cut text width = if width == 0 then Some WidthOutOfRange else text_refusal is_cut text
 
@@ -75,16 +75,16 @@ opening_refusal is_cut text width = if width == 0 then Some WidthOutOfRange else
 abbrev pub is_no_width : ℕ → Bool
 is_no_width width = (width == 0) || nat_lt (2 ^ 31 - 1) width
 
--- the reason for refusing to open a measured session, if there is one
+-- the reason for refusing to open a measured session, or `None`
 abbrev pub measured_refusal : (ℕ → ℕ → Bool) → List ℕ → ℕ → Option EditFault
 measured_refusal is_cut text width = if is_no_width width then Some WidthOutOfRange else text_refusal is_cut text
 
--- the error that is returned: the reason for a refusal, or `NoMemory` if there is none
+-- whether a call may return this error: the reason for a refusal, or `NoMemory` if there is none
 abbrev pub IsAnswerFor : Option EditFault → EditFault → Type 0
 IsAnswerFor reason NoMemory = reason ≡ None
 IsAnswerFor reason fault = reason ≡ Some fault
 
--- After a refusal, the engine is unchanged. After `NoMemory`, the engine's work is within a bound.
+-- After a refusal, the engine is unchanged. After `NoMemory`, `bound` limits the engine's work.
 abbrev pub IsCountedFor : EditFault → (Engine → Engine → Type 0) → Engine → Engine → Type 0
 IsCountedFor NoMemory bound old new = bound old new
 IsCountedFor fault bound old new = new ≡ old
@@ -106,7 +106,7 @@ Opens engine whole width = OpensAs false (opening_refusal (cut_by (rules_of engi
 abbrev pub OpensMeasured : Engine → List ℕ → ℕ → SessionState → Type 0
 OpensMeasured engine whole width = OpensAs true (measured_refusal (cut_by (rules_of engine)) whole width) engine whole width
 
--- opening a session failed, and returned the engine and the fault
+-- opening a session failed, and `back` holds the engine and the fault that were returned
 pub record OpensNotFor (reason : Option EditFault) (engine : Engine) (whole : List ℕ) (back : Engine × EditFault) : Type 0 where
   pub reason_is : IsAnswerFor reason back.1
   pub rules : SameRules engine back.0
@@ -118,7 +118,7 @@ OpensNot engine whole width = OpensNotFor (opening_refusal (cut_by (rules_of eng
 abbrev pub OpensMeasuredNot : Engine → List ℕ → ℕ → Engine × EditFault → Type 0
 OpensMeasuredNot engine whole width = OpensNotFor (measured_refusal (cut_by (rules_of engine)) whole width) engine whole
 
--- an edit was executed
+-- an edit was executed: the text is the edited text, and `answer` is the damage
 pub record Edits (edit : Replacement) (old new : SessionState) (answer : Damage) : Type 0 where
   pub accepted : refusal (cuts_at old) old.advances (text_at old) edit ≡ None
   pub text : text_at new ≡ replaced (text_at old) edit

@@ -54,14 +54,14 @@ abbrev pub back : Direction → Direction
 back Left = Right
 back Right = Left
 
--- the edge after `count` steps in one direction, if all of these steps are possible
+-- the edge after `count` steps in one direction; `None` if any of these steps is not possible
 abbrev pub after_steps : Rules → List Layout → Direction → ℕ → Edge → Option Edge
 after_steps rules kept direction zero edge = Some edge
 after_steps rules kept direction (suc count) edge = option_and_then (after_steps rules kept direction count) (step_at rules kept edge direction)
 
 -- steps from a caret on a line that starts at the position `start`
 module _ (rules : Rules) (kept : List Layout) (line : Visual) (start : ℕ) (direction : Direction) (caret : Caret) where
-  -- whether the edge that a step returns is at the nearest boundary in its direction, on the same line
+  -- whether the edge that a step returns is at the nearest boundary in the step's direction, on the same line
   pub record StepsTo (next : Edge) : Type 0 where
     pub to : Caret
     pub drawn : edge_caret_at rules kept next ≡ Some to
@@ -70,7 +70,7 @@ module _ (rules : Rules) (kept : List Layout) (line : Visual) (start : ℕ) (dir
     pub boundary : IsBoundary kept line start to.column
     pub nearest : (c : ℕ) → IsBoundary kept line start c → IsFurther direction caret.column c → IsFurther direction to.column c ⊎ (c ≡ to.column)
 
-  -- whether a step returns such an edge, or returns none because there is no boundary in its direction
+  -- whether a step returns the edge at the nearest boundary in its direction, or `None` if there is none
   abbrev pub IsStep : Option Edge → Type 0
   IsStep (Some next) = StepsTo next
   IsStep None = (c : ℕ) → IsBoundary kept line start c → IsFurther direction caret.column c → ⊥
@@ -92,7 +92,7 @@ Returns rules kept line start direction edge caret = IsBoundary kept line start 
     → (again : Edge) × (step_at rules kept next (back direction) ≡ Some again)
     × (to : Caret) × (edge_caret_at rules kept again ≡ Some to) × (to.column ≡ caret.column)
 
--- whether an edge is at the last boundary of line n up to a column
+-- whether an edge is on line n, at the line's last boundary that is not past a column
 pub record IsLastTo (rules : Rules) (kept : List Layout) (n : ℕ) (line : Visual) (start column : ℕ) (edge : Edge) : Type 0 where
   pub to : Caret
   pub drawn : edge_caret_at rules kept edge ≡ Some to
@@ -101,8 +101,8 @@ pub record IsLastTo (rules : Rules) (kept : List Layout) (n : ℕ) (line : Visua
   pub within : to.column ≤ column
   pub last : (c : ℕ) → IsBoundary kept line start c → c ≤ column → c ≤ to.column
 
--- Whether the units of each line tile its columns, and the edge at a column is at the last boundary up to
--- that column. From each edge, a step leads to the nearest boundary, and repeated steps reach all boundaries
+-- Whether the units of each line tile its columns, and the edge at a column is at the last boundary that is
+-- not past it. From each edge, a step leads to the nearest boundary, and repeated steps reach all boundaries
 -- in their direction. From a boundary, a step and a step back return to the same column.
 pub record StepsAreNearest (rules : Rules) (kept : List Layout) : Type 0 where
   pub tile : (n : ℕ) (line : Visual) (start : ℕ) → line_at kept n ≡ Some (line, start) → UnitsTile kept line start

@@ -9,7 +9,7 @@ abbrev pub start_of : List (List ℕ) → ℕ → ℕ
 start_of pars i = length (concat (take i pars))
 
 module _ (pars : List (List ℕ)) (edit : Replacement) where
-  -- whether the edited range overlaps a paragraph or is adjacent to it
+  -- whether the edited range overlaps paragraph i or is adjacent to it
   abbrev pub is_touched : ℕ → Bool
   is_touched i = nat_le (start_of pars i) (edit.pos + edit.count) && nat_le edit.pos (start_of pars (i + 1))
 
@@ -25,20 +25,20 @@ module _ (pars : List (List ℕ)) (edit : Replacement) where
   abbrev pub fresh : ℕ
   fresh = length (concat (slice_range pars first_touched (first_touched + touched_count))) - edit.count + length edit.piece
 
--- `piece` replaces the characters from one position to another
+-- `piece` replaces the characters from position `from` up to `to`
 abbrev pub region_edit : ℕ → ℕ → List ℕ → Replacement
 region_edit from to piece = record { pos = from; count = to - from; piece = piece }
 
--- adjacent paragraphs: from `first` to `end`, with the characters from `start` to `stop`
+-- adjacent paragraphs: from index `first` up to `end`, with the characters from position `start` up to `stop`
 pub record Span : Type 0 where
   pub first : ℕ
   pub end : ℕ
   pub start : ℕ
   pub stop : ℕ
 
--- The paragraphs that an edit of the characters from `pos` to `end` touches. If another paragraph precedes
+-- The paragraphs that an edit of the characters from `pos` up to `end` touches. If another paragraph precedes
 -- them, they contain a character before the edited range. If another paragraph follows them, they contain a
--- character after it.
+-- character after that range.
 pub record AreTouched (pars : List (List ℕ)) (pos end : ℕ) (touched : Span) : Type 0 where
   pub first : touched.first ≡ first_touched pars (region_edit pos end [])
   pub count : touched.end ≡ touched.first + touched_count pars (region_edit pos end [])

@@ -1,6 +1,6 @@
--- Caret units: what a caret moves over on a line in one step. A unit begins at each character of a grapheme
--- cluster that takes columns, unless an earlier such character of the cluster is in the same level run. It
--- ends where the cluster's next unit begins, or else at the end of the shown part of the cluster.
+-- Caret units: what a caret moves over on a line in one step. A unit begins at each character that takes
+-- columns, unless an earlier such character of its grapheme cluster is in the same level run. It ends where
+-- the cluster's next unit begins, or else at the end of the shown part of the cluster.
 use Rattle.std.specs.Prelude.{ℕ, suc, ◌+◌, ◌-◌, nat_lt, nat_le, ◌==◌, Bool, ◌&&◌, not, min, max, length, slice_index, Option, Some, None, unwrap_or, if◌then◌else◌}
 use Rattle.bidi.specs.Brackets.{greatest}
 use Rattle.lines.specs.Clusters.{after}
@@ -25,11 +25,11 @@ module _ (line : Visual) where
   abbrev pub run_begin : ℕ → ℕ
   run_begin k = after (greatest (is_at_other k) k) 0
 
-  -- the character after the last one of the level run of character k
+  -- the index after the last character of the level run of character k
   abbrev pub run_end : ℕ → ℕ
   run_end k = unwrap_or (least (is_at_other k) k (length line.levels - k)) (length line.levels)
 
-  -- whether the character at a visual position is from `first` up to `end`, and takes columns
+  -- whether the character at a visual position has an index from `first` up to `end`, and takes columns
   abbrev pub is_in_unit : ℕ → ℕ → ℕ → Bool
   is_in_unit first end place =
       let k = slice_index line.vtol place in
@@ -52,19 +52,19 @@ module _ (line : Visual) (start : ℕ) (cluster : Cluster) where
   abbrev pub shown_end : ℕ
   shown_end = min (cluster.end - start) (length line.levels)
 
-  -- The start of the unit of character k, which takes columns: the first character that takes columns in the
+  -- The start of the unit of character k, if k takes columns: the first character that takes columns in the
   -- same cluster and level run.
   abbrev pub unit_start : ℕ → ℕ
   unit_start k =
       let low = max shown_begin (run_begin line k) in
       unwrap_or (least (takes_columns line) low (k - low)) k
 
-  -- the end of this unit: the first character that takes columns in a later level run of the cluster, or else
-  -- the end of the shown part
+  -- the end of the unit of character k: the first character that takes columns in a later level run of the
+  -- cluster, or else the end of the shown part
   abbrev pub unit_end : ℕ → ℕ
   unit_end k = unwrap_or (least (takes_columns line) (run_end line k) (shown_end - run_end line k)) shown_end
 
-  -- the unit of character k; the columns of its two ends differ by the number of columns of its characters
+  -- the unit of character k; the columns of its two ends differ by the total width of its characters
   abbrev pub unit_of : ℕ → CaretUnit
   unit_of k =
       let first = unit_start k in
@@ -84,7 +84,7 @@ module _ (line : Visual) (start : ℕ) (cluster : Cluster) where
   abbrev pub column_before : ℕ → ℕ
   column_before k = if takes_columns line k && unit_start k == k then (unit_of k).leading else leading_edge line k
 
-  -- the last character that takes columns in the cluster, at or before k; its unit also contains k
+  -- the last character of the cluster at or before k that takes columns, or `None`; its unit also contains k
   abbrev pub holder : ℕ → Option ℕ
   holder k = greatest (λ j. nat_le shown_begin j && takes_columns line j) (suc k)
 

@@ -93,7 +93,7 @@ fn find_last_touched<S: ParagraphStore<Kept>>(store: &S, to: usize) -> LastTouch
     }
 }
 
-/// Returns the last paragraph that is touched by an edit ending at `to`, given the first one.
+/// Returns the last paragraph that is touched by an edit ending at `to`, given the first touched paragraph.
 pub fn last_touched<'a, S: ParagraphStore<Kept>>(
     store: &'a S,
     front: Border,
@@ -107,7 +107,7 @@ pub fn last_touched<'a, S: ParagraphStore<Kept>>(
     ensures kept { option_map (λ kept. kept.now) result.kept
         ≡ slice_get (S.items store.now) (result.end.index - 1) }
 {
-    // Fast path for the first paragraph and the one after it: no search.
+    // Fast path: no search if the edit ends in the first paragraph that it touches, or in the next one.
     let Some(kept) = first else {
         return find_last_touched(store, to);
     };

@@ -1,4 +1,4 @@
-//! Where to draw a caret before a character.
+//! Where a caret before a character, or at the end of the text, is drawn.
 ghost use Rattle.std.specs.Prelude.{◌≡◌, ◌^◌, ◌<◌, slice_index};
 ghost use Rattle.reorder.specs.Order.{is_odd};
 ghost use Rattle.session.specs.Carets.{caret_in, leading_edge, line_end, trailing_edge};
@@ -40,7 +40,7 @@ pub fn is_odd(level: u8) -> bool
     level % 2 == 1
 }
 
-// Returns the visual position of a character, given its index in the line.
+// Returns the visual position of a character, given its index in the line; 0 if it is not shown.
 fn visual(line: &VisualLine<'_>, k: usize) -> usize
     ensures value { result ≡ slice_index line.now.ltov k }
     ensures fits { result < 2 ^ 32 }
@@ -61,7 +61,7 @@ pub fn level_of(line: &VisualLine<'_>, k: usize) -> u8
     }
 }
 
-/// Returns the column of the leading edge of character `k`: the left edge if its level is even.
+/// Returns the column of character `k`'s leading edge: the left edge if its level is even, or else the right.
 pub fn leading_edge(line: &VisualLine<'_>, k: usize) -> usize
     ensures column { result ≡ leading_edge line.now k }
     ensures fits { result < 2 ^ 63 }
@@ -74,7 +74,8 @@ pub fn leading_edge(line: &VisualLine<'_>, k: usize) -> usize
     })
 }
 
-/// Returns the column of the trailing edge of character `k`: the right edge if its level is even.
+/// Returns the column of character `k`'s trailing edge: the right edge if its level is even, or else the
+/// left.
 pub fn trailing_edge(line: &VisualLine<'_>, k: usize) -> usize
     ensures { result ≡ trailing_edge line.now k }
 {

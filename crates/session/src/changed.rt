@@ -1,6 +1,6 @@
-//! Finds which of the damaged lines are not the same as before. Compares the old paragraphs with the new ones
-//! from both ends, one pair after another. Two lines can be the same only if both are the first of their
-//! paragraph or both are not, so the search ends at the first pair of paragraphs whose line counts differ.
+//! Finds which of the damaged lines have changed. Compares the old paragraphs with the new ones from both
+//! ends, one pair after another. Two lines can be the same only if both are the first of their paragraph or
+//! both are not. So the search ends at the first pair of paragraphs that have different lines or line counts.
 ghost use Rattle.std.specs.Prelude.{◌≡◌, ◌+◌, ◌^◌, ◌<◌, ◌≤◌, ℕ, length, map, sum_by};
 ghost use Rattle.std.specs.List.{All, slice_range};
 ghost use Rattle.lines.specs.Layouts.{visuals, Rules};
@@ -21,7 +21,7 @@ pub struct Matching {
     pub is_whole: bool,
 }
 
-// Returns a `Matching` with a count of matching lines, given the number of lines in each paragraph.
+// Returns a `Matching`, given the number of matching lines and the number of lines in each of two paragraphs.
 fn matching_of(count: usize, lines: usize, others: usize) -> Matching
     ensures count { result.count ≡ count }
     ensures whole { IsWhole lines others result }
@@ -78,7 +78,7 @@ fn staying_end(kept: &Kept, part: &Option<Extents>) -> Matching
     }
 }
 
-/// How many lines at the start and at the end of a range of paragraphs are the same as those of the new ones.
+/// How many lines at the start and at the end of a range of paragraphs are the same in the new paragraphs.
 #[derive(Clone, Copy, Debug)]
 pub struct SameEnds {
     pub start: usize,
@@ -92,7 +92,7 @@ fn ends_of_pair(old: &Kept, new: &Kept) -> SameEnds
 {
     let lines = old.lines();
     let start = old.laid().matching_at_start(new.laid());
-    // Fast path: if only the last lines of both paragraphs did not match from the start, they differ.
+    // Fast path: if all lines but the last of each paragraph match from the start, the last lines differ.
     let end = if new.lines() == lines && start < lines && lines - start == 1 {
         0
     } else {
@@ -101,7 +101,7 @@ fn ends_of_pair(old: &Kept, new: &Kept) -> SameEnds
     SameEnds { start, end }
 }
 
-// Returns the number of lines of some paragraphs.
+// Returns the total number of lines in the new paragraphs.
 fn line_count(new: &[Kept]) -> usize
     requires { sum_by (λ l. length l.lines) new.now < 2 ^ 64 }
     ensures { result ≡ sum_by (λ l. length l.lines) new.now }
@@ -113,8 +113,8 @@ fn line_count(new: &[Kept]) -> usize
     count
 }
 
-/// Returns how many lines at each end of a range of paragraphs, which has `lines` lines, are the same as
-/// those of the new paragraphs.
+/// Returns how many lines at each end of a range of paragraphs are the same in the new paragraphs. `lines` is
+/// the number of lines in the range.
 pub fn same_ends<S: ParagraphStore<Kept>>(
     store: &S,
     first: usize,
@@ -131,7 +131,7 @@ pub fn same_ends<S: ParagraphStore<Kept>>(
     ensures end { All HasLines (S.items store.now) → All HasLines new.now → MatchAtEnd
         (lines_in (slice_range (S.items store.now) first end)) (lines_in new.now) result.end }
 {
-    // Fast path for one paragraph that replaces another: looks it up once.
+    // Fast path: if one paragraph replaces one other, the old one is looked up only once.
     if new.len() == 1 && end - first == 1 {
         let Some(kept) = store.get(first) else {
             unreachable!()
@@ -139,7 +139,7 @@ pub fn same_ends<S: ParagraphStore<Kept>>(
         return ends_of_pair(kept, &new[0]);
     }
     let start = matching_at_start(store, first, end, new);
-    // Fast path: if only the last line of each side did not match from the start, these two lines differ.
+    // Fast path: if all lines but the last of each side match from the start, these two last lines differ.
     let end = if start < lines && lines - start == 1 && line_count(new) == lines {
         0
     } else {
@@ -148,7 +148,7 @@ pub fn same_ends<S: ParagraphStore<Kept>>(
     SameEnds { start, end }
 }
 
-// Returns how many lines at the start of a range of paragraphs are the same as at the start of the new ones.
+// Returns how many lines at the start of a range of paragraphs are the same as at the start of `new`.
 fn matching_at_start<S: ParagraphStore<Kept>>(
     store: &S,
     first: usize,
@@ -176,7 +176,7 @@ fn matching_at_start<S: ParagraphStore<Kept>>(
     count
 }
 
-// Returns how many lines at the end of a range of paragraphs are the same as at the end of the new ones.
+// Returns how many lines at the end of a range of paragraphs are the same as at the end of `new`.
 fn matching_at_end<S: ParagraphStore<Kept>>(
     store: &S,
     first: usize,
@@ -253,7 +253,7 @@ pub fn staying_at_end<S: ParagraphStore<Kept>>(store: &S, parts: &[Option<Extent
     count
 }
 
-/// Returns the damaged lines without `start` unchanged ones at their start and then `end` unchanged ones at
+/// Returns the damaged lines without `start` unchanged lines at their start and then `end` unchanged lines at
 /// their end.
 pub fn without_same(damage: Damage, start: usize, end: usize) -> ChangedLines
     requires { damage.first_line + damage.old_lines < 2 ^ 64 }

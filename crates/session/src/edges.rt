@@ -31,7 +31,7 @@ pub enum Side {
 }
 
 /// One of the two edges of a position. The two edges are drawn at different places where the direction
-/// changes or a line wraps. Edits happen at `pos` either way.
+/// changes or a line wraps. For an edit, only `pos` matters.
 #[derive(Clone, Copy, Debug, PartialEq, Eq)]
 pub struct Edge {
     pub pos: usize,
@@ -126,8 +126,8 @@ fn column_on(side: Side, line: &VisualLine<'_>, start: usize, cluster: Cluster, 
     }
 }
 
-// Returns the caret on a side of character `k` of line `n`, which starts at the position `start`, or at the
-// line's end if the character is not shown.
+// Returns the caret on a side of character `k` of line `n`, or at the line's end if the character is not
+// shown. The line starts at the position `start`.
 fn caret_beside(
     side: Side,
     n: usize,
@@ -158,7 +158,7 @@ impl<S: ParagraphStore<Kept>> Session<S> {
         Some((self.line(n)?, self.line_start(n)?))
     }
 
-    // Returns the unit that covers a column of a line, which starts at the position `start`.
+    // Returns the unit that covers a column of a line, or `None` if none does. The line starts at `start`.
     fn unit_at(
         &self,
         line: &VisualLine<'_>,
@@ -210,15 +210,17 @@ impl<S: ParagraphStore<Kept>> Session<S> {
     /// of position 0.
     ///
     /// A `Before` edge belongs to the character at the position, and an `After` edge to the character before
-    /// that position. The caret is on the character's line, and has the character's level. It is drawn:
-    /// - If a caret unit (see `step`) begins or ends with the character: at that end of the unit.
-    /// - Otherwise, at the character's own edge.
+    /// that position. The caret is on the character's line. Its level is the character's or, if the character
+    /// is not shown, the base level. It is drawn:
+    /// - If a caret unit (see `step`) begins with the character (`Before`) or ends with it (`After`): at that
+    ///   end of the unit.
+    /// - Otherwise, if the character is shown: at its leading edge (`Before`) or its trailing edge (`After`).
     /// - If the character is not shown: at the end of the line in the base direction.
     ///
     /// At the end of the text, the caret of the `Before` edge is the one that `caret` returns.
     ///
-    /// Fails only if memory runs out, and only at an edge of a character. Needs time linear in the lengths of
-    /// the line and of the character's cluster (see `cluster`).
+    /// Fails only if memory runs out, and only for an edge that belongs to a character. Needs time linear in
+    /// the lengths of the line and of the character's cluster (see `cluster`).
     pub fn edge_caret(&self, edge: Edge) -> Result<Option<Caret>, AllocError>
         ensures ok { IfOk result (λ caret. caret
             ≡ edge_caret_at (rules_of self.now.engine) self.now.kept edge) }
@@ -242,8 +244,8 @@ impl<S: ParagraphStore<Kept>> Session<S> {
         }
     }
 
-    /// Moves a caret by one step on its line. Returns the edge where the caret stops. Returns `None` if the
-    /// caret is at the end of the line in that direction, or if `edge_caret` returns `None`.
+    /// Returns the edge that a caret reaches by one step on its line. Returns `None` if the caret is at the
+    /// end of the line in that direction, or if `edge_caret` returns `None`.
     ///
     /// A step moves over one caret unit: a grapheme cluster or, if the cluster's characters are in several
     /// level runs, the part in one of these runs. The returned edge is the unit's far edge.
@@ -278,7 +280,7 @@ impl<S: ParagraphStore<Kept>> Session<S> {
         }
     }
 
-    // Returns the edge at a column of a line.
+    // Returns the edge at a column of a line that starts at the position `start`.
     fn edge_on(
         &self,
         line: &VisualLine<'_>,
@@ -294,7 +296,7 @@ impl<S: ParagraphStore<Kept>> Session<S> {
         }
     }
 
-    // Returns the edge nearest to a column of a line.
+    // Returns the edge nearest to a column of a line that starts at the position `start`.
     fn nearest_on(
         &self,
         line: &VisualLine<'_>,
@@ -310,7 +312,8 @@ impl<S: ParagraphStore<Kept>> Session<S> {
         }
     }
 
-    // Returns the edge at the right end of a line's shown part, or before the start of a line of width 0.
+    // Returns the edge at the right end of a line's shown part, or the edge before its first character if its
+    // width is 0.
     fn rightmost_edge(&self, line: &VisualLine<'_>, start: usize) -> Result<Edge, AllocError>
         requires { start < 2 ^ 33 }
         ensures { IfOk result (λ edge. edge ≡ edge_by self.now.kept start None
@@ -323,8 +326,7 @@ impl<S: ParagraphStore<Kept>> Session<S> {
         }
     }
 
-    // Returns whether line `n` is the line after the last one, and a new paragraph would start at the end of
-    // the text.
+    // Returns whether line `n` would be the first line of a new paragraph at the end of the text.
     fn is_next(&self, n: usize) -> bool
         ensures { result ≡ is_next (rules_of self.now.engine) self.now.kept n }
     {
@@ -344,7 +346,7 @@ impl<S: ParagraphStore<Kept>> Session<S> {
         }
     }
 
-    // Returns the last edge of a line from `start` up to `end`, of which `shown` characters are shown.
+    // Returns the last edge of the line from position `start` up to `end`, which shows `shown` characters.
     fn last_edge(&self, start: usize, end: usize, shown: usize) -> Edge
         requires { start + shown < 2 ^ 64 }
         ensures { result ≡ last_edge (rules_of self.now.engine) (text_at self.now) start end shown }

@@ -4,7 +4,7 @@ use thiserror::Error;
 /// The maximum number of characters in a text.
 pub const TEXT_LIMIT: usize = 16_777_216;
 
-// The documents state this limit as a number. Contracts use the constant.
+// The documentation states this limit as a number, and contracts use the constant.
 const _: () = prove!(TEXT_LIMIT == 16_777_216);
 
 /// An edit of a text, or a change of its width. Positions count characters (Unicode scalar values).
@@ -18,7 +18,7 @@ pub enum Edit<'a> {
     SetWidth(u16),
 }
 
-/// The `count` characters from `pos` on.
+/// A range of a text: `count` characters, starting at `pos`.
 #[derive(Clone, Copy, Debug)]
 pub struct TextRange {
     pub pos: usize,
@@ -50,7 +50,7 @@ pub struct ChangedLines {
 /// The maximum width of a measured session, in the caller's unit.
 pub const MEASURED_WIDTH_LIMIT: u32 = 2_147_483_647;
 
-// The documents and the contracts state this limit as a number.
+// The documentation and the contracts state this limit as a number.
 const _: () = prove!(MEASURED_WIDTH_LIMIT == 2_147_483_647);
 
 /// Why a call for measured text failed. The causes are listed in the order in which they are tested.

@@ -37,7 +37,7 @@ fn is_even(line: &VisualLine<'_>, k: usize) -> bool
     }
 }
 
-// Returns the visual position of the character that covers the last column, if there is one.
+// Returns the visual position of the character that covers the last column, or `None` if the width is 0.
 fn rightmost(line: &VisualLine<'_>) -> Option<usize>
     ensures { result ≡ rightmost line.now }
 {

@@ -105,8 +105,8 @@ pub struct Form {
     pub width: u32,
 }
 
-/// Part of a paragraph. If the text is measured, there is one advance for each character. Otherwise, there
-/// are none.
+/// Part of a paragraph. If the text is measured, there is one advance for each character. Otherwise,
+/// `advances` is empty.
 #[derive(Clone, Copy, Debug)]
 pub struct Part<'a> {
     pub text: &'a [char],

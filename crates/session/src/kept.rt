@@ -130,14 +130,14 @@ impl Measured for Kept {
     }
 }
 
-/// The part of a paragraph that is exchanged is its lines at some width.
+/// Exchanges the lines of a paragraph for its lines at another width.
 impl Exchange for Kept {
     type Part = Fill;
 
     ghost use Rattle.std.specs.Prelude.{length, refl};
     ghost use Rattle.lines.specs.Layouts.{AreLinesOf, IsLaidOut, Rules};
 
-    // The lines belong to this paragraph, and were found with the tables and options of its layout.
+    // The new lines are lines of this paragraph, found with the tables and options of its layout.
     ghost fits = { λ kept fill.
         (rules : Rules) × IsLaidOut rules kept × AreLinesOf rules kept.text fill };
 
@@ -158,10 +158,10 @@ impl Exchange for Kept {
 }
 
 /// Overwrites the lines of paragraphs with those at another width, using an engine's tables and options. The
-/// part of a paragraph that is exchanged is the extents of its lines, or `None` if its lines do not change.
+/// extents of the new lines are given for each paragraph, or `None` if its lines do not change.
 pub struct Reflow<'a> {
     pub engine: &'a Engine,
-    /// Scratch space with capacity for the longest paragraph. It counts the characters whose lines are
+    /// Scratch space with capacity for the longest paragraph, and the count of characters whose lines were
     /// written.
     pub scratch: ReflowScratch,
 }
@@ -198,7 +198,7 @@ impl<'a> Exchanger<Kept> for Reflow<'a> {
 
     ghost worked = { λ reflow. reflow.written };
 
-    // The number of characters in a paragraph whose lines are replaced.
+    // The number of characters in a paragraph if its lines are replaced, and otherwise 0.
     ghost cost = { written_for };
 
     ghost keeps_chars = { λ by kept part _. ap length (text_stays by kept part) };

@@ -19,7 +19,7 @@ use lines::{Laid, clusters_adjoin, lines_are_ordered, runs_adjoin, runs_have_all
 /// States, as a theorem, that if a text is split at a paragraph boundary, its layouts are those of the first
 /// part, followed by those of the second part. This holds for any tables, options and width. If the text is
 /// measured, each part has the advances of its characters. The printed bytes can be split in the same way.
-/// So the parts of a long text may be laid out in any order. Costs nothing at run time.
+/// So the parts of a long text can be laid out in any order. Costs nothing at run time.
 pub fn texts_are_laid_out_in_parts()
     ensures layouts { (rules : Rules) (width : ℕ) (front rest : List ℕ)
         → IsCutAt (cut_by rules) front rest
@@ -54,7 +54,7 @@ pub fn measured_edits_are_drawn_at_once()
 /// at a column is at the last boundary up to that column. This holds at any width, under any rules
 /// with `reorder_clusters`, and under any rules that leave marks in place or give them no columns. Without
 /// `reordernsm`, marks stay in place. In the tables of Unicode 15.0, all nonspacing marks except U+2D7F and
-/// U+1171E take no columns; this was read from the tables, and is not proved. Costs nothing at run time.
+/// U+1171E take no columns; this can be read from the tables, and is not proved. Costs nothing at run time.
 pub fn steps_lead_to_boundaries()
     ensures { (rules : Rules) (width : ℕ) (text : List ℕ)
         → (rules.options.reorder_clusters ≡ true) ⊎ MarksStay rules text

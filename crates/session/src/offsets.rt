@@ -93,7 +93,7 @@ impl Encoding {
         }
     }
 
-    // Returns the number of units before a found paragraph.
+    // Returns the number of units before the paragraph that was found.
     fn before(self, found: Found) -> usize
         ensures { result ≡ before_in self found }
     {

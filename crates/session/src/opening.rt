@@ -193,8 +193,8 @@ fn append_one<S: ParagraphStore<Kept>>(
     append(store, new)
 }
 
-/// Lays out each paragraph of a text once, and appends the layouts to a store. No paragraph may be too long.
-/// If the text is measured, all advances are 0.
+/// Lays out each paragraph of a text once, and appends the layouts to a store. Every paragraph must be within
+/// the length limit. If the text is measured, all advances are 0.
 pub fn append_all<S: ParagraphStore<Kept>>(
     alloc: Global,
     engine: &mut Engine,

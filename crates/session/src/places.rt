@@ -13,7 +13,8 @@ use crate::kept::Kept;
 use lines::Engine;
 use store::ParagraphStore;
 
-/// The place of a character of a text, or of the end of the text. All numbers start at 0.
+/// The place of a character of a text, or of the end of the text. Paragraphs, lines and offsets are counted
+/// from 0.
 #[derive(Clone, Copy, Debug, PartialEq, Eq)]
 pub struct Place {
     /// The index of the paragraph that contains the place.
@@ -83,7 +84,7 @@ fn lines_to(starts: &[u32], pos: usize) -> usize
     starts.partition_point(|start| *start as usize <= pos)
 }
 
-// Returns the place of a character.
+// Returns the place of the character at a position.
 fn place_in<S: ParagraphStore<Kept>>(store: &S, pos: usize) -> Place
     requires within { pos < length (text_of (S.items store.now)) }
     requires lined { All IsLined (S.items store.now) }

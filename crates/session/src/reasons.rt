@@ -19,7 +19,8 @@ pub struct CharReasons {
     pub paragraph_start: usize,
     /// The reason for the level (UAX #9). Its positions are counted from the start of the paragraph.
     pub level: LevelReason,
-    /// The reason for the break mark after the character (UAX #14). Its positions are counted likewise.
+    /// The reason for the break mark after the character (UAX #14). Its positions are also counted from the
+    /// start of the paragraph.
     pub mark: Reason,
 }
 

@@ -22,7 +22,7 @@ use lines::{Engine, lines_are_few};
 use std::alloc::Global;
 use store::ParagraphStore;
 
-// Gives the lists of a replaced paragraph to the engine for reuse.
+// Moves the lists of the last replaced paragraph into the engine, which reuses them.
 fn recycle(engine: &mut Engine, old: Vec<Kept>)
     ensures { engine.new ≡ engine.old }
 {

@@ -76,7 +76,7 @@ impl RoomScan {
         }
     }
 
-    /// Returns whether the advances of a paragraph read so far add up to 2^32 or more.
+    /// Returns whether the advances of any paragraph read so far add up to 2^32 or more.
     pub fn is_over(&self) -> bool
         ensures { result ≡ is_over_scan self.now }
     {

@@ -10,7 +10,7 @@ use lines::{Engine, PARAGRAPH_LIMIT};
 #[derive(Clone, Copy, Debug)]
 pub struct Scan {
     last: Option<char>,
-    // The length of the last paragraph, up to the limit.
+    // The length of the last paragraph, or the limit if it is longer.
     len: usize,
     is_long: bool,
 }

@@ -254,7 +254,8 @@ impl<S: ParagraphStore<Kept>> Session<S> {
         line_start(&self.store, n)
     }
 
-    /// Returns the paragraph and the line of the character at a position, or `None` past the end of the text.
+    /// Returns the paragraph and the line of the character at a position, and its offset in the line. Returns
+    /// `None` past the end of the text.
     ///
     /// The end of the text is also a position, after the last character. If the text is empty or ends with a
     /// separator, the end is where the next paragraph would start, and its `line` is `line_count`.
@@ -391,7 +392,7 @@ impl<S: ParagraphStore<Kept>> Session<S> {
     /// after it. Returns `None` past the last character. The rules depend on the Unicode version of the
     /// tables and on the session's options. The level is the one before L1; the level in the line can differ.
     ///
-    /// Needs time and memory proportional to the length of the paragraph: some 500 bytes for each character.
+    /// Needs time and memory proportional to the length of the paragraph: about 500 bytes for each character.
     /// Does not change the work counters.
     pub fn reasons(&self, pos: usize) -> Result<Option<CharReasons>, AllocError>
         ensures ok { IfOk result (λ reasons. reasons
@@ -410,9 +411,9 @@ impl<S: ParagraphStore<Kept>> Session<S> {
         self.alloc
     }
 
-    /// Of the `count` characters starting at `pos`, returns those in the same paragraph as the first one.
-    /// Returns `None` if the range reaches past the end. The returned part is empty only if `count` is 0. To
-    /// read the rest, call again with `pos + part.len()` and `count - part.len()`.
+    /// Returns those of the `count` characters starting at `pos` that are in the same paragraph as the first
+    /// of them. Returns `None` if the range reaches past the end. The returned part is empty only if `count`
+    /// is 0. To read the rest, call again with `pos + part.len()` and `count - part.len()`.
     pub fn text(&self, pos: usize, count: usize) -> Option<&[char]>
         ensures part { option_map (λ part. part.now) result ≡ text_part self.now.kept pos count }
         ensures some { 0 < count → IfSome result (λ part. 0 < length part.now) }
@@ -424,8 +425,8 @@ impl<S: ParagraphStore<Kept>> Session<S> {
         text_part(&self.store, pos, count)
     }
 
-    /// Returns the length in bytes of `count` characters, starting at `pos`, in UTF-8. Returns `None` if the
-    /// range reaches past the end. Costs two calls to `byte_of`. Allocates nothing.
+    /// Returns how many bytes the `count` characters starting at `pos` have in UTF-8. Returns `None` if the
+    /// range reaches past the end. Costs as much as two calls to `byte_of`. Allocates nothing.
     pub fn utf8_len(&self, pos: usize, count: usize) -> Option<usize>
         ensures { result ≡ utf8_len self.now.kept pos count }
     {
@@ -433,8 +434,8 @@ impl<S: ParagraphStore<Kept>> Session<S> {
     }
 
     /// Returns the number of UTF-8 bytes before a position, or `None` past the end. Needs time logarithmic in
-    /// the number of paragraphs and, unless the paragraph at `pos` is ASCII, linear in its length. Allocates
-    /// nothing.
+    /// the number of paragraphs and, unless the paragraph at `pos` is ASCII, linear in that paragraph's
+    /// length. Allocates nothing.
     pub fn byte_of(&self, pos: usize) -> Option<usize>
         ensures byte { result ≡ offset_of Utf8 (text_at self.now) pos }
         ensures none { is_none result ≡ nat_lt (length (text_at self.now)) pos }
@@ -453,8 +454,8 @@ impl<S: ParagraphStore<Kept>> Session<S> {
     }
 
     /// Returns the number of UTF-16 code units before a position, or `None` past the end. Needs time
-    /// logarithmic in the number of paragraphs and, unless each character of the paragraph at `pos` is one
-    /// code unit, linear in its length. Allocates nothing.
+    /// logarithmic in the number of paragraphs. If the paragraph at `pos` has a character of two code units,
+    /// also linear in that paragraph's length. Allocates nothing.
     pub fn utf16_of(&self, pos: usize) -> Option<usize>
         ensures unit { result ≡ offset_of Utf16 (text_at self.now) pos }
         ensures none { is_none result ≡ nat_lt (length (text_at self.now)) pos }
@@ -563,8 +564,8 @@ impl<S: ParagraphStore<Kept>> Session<S> {
         paragraph_first_line(&self.store, index)
     }
 
-    /// Returns the width, in columns. In a measured session, returns at most 65,535. Use `measured_width`
-    /// there.
+    /// Returns the width, in columns. In a measured session, returns the width in the caller's unit, or
+    /// 65,535 if it is greater. Use `measured_width` there.
     pub fn width(&self) -> u16
         ensures width { result ≡ min self.now.width 65535 }
         ensures laid_out { IsWholeLayout self.now }
@@ -589,21 +590,22 @@ impl<S: ParagraphStore<Kept>> Session<S> {
         self.form.is_measured
     }
 
-    /// Returns the number of characters that were analysed. The count saturates at 2^64−1.
+    /// Returns how many characters the session's engine has analysed. The count saturates at 2^64−1.
     pub fn analysed(&self) -> u64
         ensures { result ≡ analysed_of self.now.engine }
     {
         self.engine.analysed()
     }
 
-    /// Returns the number of characters that were filled into lines. The count saturates at 2^64−1.
+    /// Returns how many characters the session's engine has filled into lines. The count saturates at 2^64−1.
     pub fn filled(&self) -> u64
         ensures { result ≡ filled_of self.now.engine }
     {
         self.engine.filled()
     }
 
-    /// Returns the number of characters whose lines were written. The count saturates at 2^64−1.
+    /// Returns the number of characters whose lines the session's engine has written. The count saturates at
+    /// 2^64−1.
     pub fn written(&self) -> u64
         ensures { result ≡ written_of self.now.engine }
     {

@@ -1,5 +1,5 @@
-//! Caret units: what a caret moves over on a line in one step. A unit consists of characters of a grapheme
-//! cluster that are at one level.
+//! Caret units: what a caret moves over on a line in one step. The characters of a unit are in one grapheme
+//! cluster, and those that take columns are in one level run.
 ghost use Rattle.std.specs.Prelude.{◌≡◌, ◌+◌, ◌-◌, ◌^◌, ◌<◌, ◌≤◌, length, slice_index, IfSome};
 ghost use Rattle.lines.specs.Columns.{columns_between};
 ghost use Rattle.lines.specs.Visual.{Visual};
@@ -39,7 +39,7 @@ fn takes_columns(line: &VisualLine<'_>, k: usize) -> bool
     line.columns_between(k, k + 1) > 0
 }
 
-// Returns the first character from `low` up to `end` that takes columns.
+// Returns the first character from `low` up to `end` that takes columns, or `None` if none does.
 fn first_taking(line: &VisualLine<'_>, low: usize, end: usize) -> Option<usize>
     ensures value { result ≡ least (takes_columns line.now) low (end - low) }
     ensures before { IfSome result (λ k. k < end) }
@@ -95,7 +95,7 @@ fn shown_end(line: &VisualLine<'_>, start: usize, cluster: Cluster) -> usize
     cluster.end.saturating_sub(start).min(line.levels().len())
 }
 
-// Returns the first character of the unit of character `k`, which takes columns.
+// Returns the first character of the unit of character `k`, where `k` must take columns.
 fn unit_start(line: &VisualLine<'_>, start: usize, cluster: Cluster, k: usize) -> usize
     ensures value { result ≡ unit_start line.now start cluster k }
     ensures most { result ≤ k }
@@ -107,7 +107,7 @@ fn unit_start(line: &VisualLine<'_>, start: usize, cluster: Cluster, k: usize) -
     }
 }
 
-// Returns the index after the last character of the unit of character `k`, which takes columns.
+// Returns the index after the last character of the unit of character `k`, where `k` must take columns.
 fn unit_end(line: &VisualLine<'_>, start: usize, cluster: Cluster, k: usize) -> usize
     ensures value { result ≡ unit_end line.now start cluster k }
     ensures fits { result < 2 ^ 63 }
@@ -119,7 +119,8 @@ fn unit_end(line: &VisualLine<'_>, start: usize, cluster: Cluster, k: usize) -> 
     }
 }
 
-// Returns whether the character at a visual position is from `first` up to `end`, and takes columns.
+// Returns whether the character at a visual position has an index from `first` up to `end`, and takes
+// columns.
 fn is_in_unit(line: &VisualLine<'_>, first: usize, end: usize, place: usize) -> bool
     ensures { result ≡ is_in_unit line.now first end place }
 {
@@ -154,9 +155,9 @@ fn leading_of(line: &VisualLine<'_>, level: u8, first: usize, end: usize) -> usi
     }
 }
 
-/// Returns the unit of character `k`, which takes columns, on a line that starts at the position `start`.
-/// `cluster` is the cluster of the character. Needs time linear in the lengths of its level run and of its
-/// cluster.
+/// Returns the unit of character `k`, where `k` must take columns. The line starts at the position `start`.
+/// `cluster` is the cluster of the character. Needs time linear in the lengths of the character's level run
+/// and of its cluster.
 pub fn unit_of(line: &VisualLine<'_>, start: usize, cluster: Cluster, k: usize) -> CaretUnit
     ensures value { result ≡ unit_of line.now start cluster k }
     ensures start { result.start ≤ k }
@@ -180,7 +181,7 @@ pub fn unit_of(line: &VisualLine<'_>, start: usize, cluster: Cluster, k: usize) 
     }
 }
 
-// Returns the last character of a cluster, up to `k`, that takes columns.
+// Returns the last character of a cluster at or before `k` that takes columns, or `None` if none does.
 fn holder(line: &VisualLine<'_>, start: usize, cluster: Cluster, k: usize) -> Option<usize>
     requires { k + 1 < 2 ^ 64 }
     ensures value { result ≡ holder line.now start cluster k }

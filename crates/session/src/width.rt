@@ -96,8 +96,7 @@ fn longest(list: &[&Kept]) -> usize
     most
 }
 
-// Finds the extents of all lines of a store that change at another width, and allocates scratch space for
-// writing them.
+// Finds the extents of all lines that change at another width, and allocates scratch space for writing them.
 fn find_all<S: ParagraphStore<Kept>>(
     alloc: Global,
     engine: &mut Engine,
@@ -129,7 +128,7 @@ fn find_all<S: ParagraphStore<Kept>>(
     Ok((parts, scratch))
 }
 
-// Overwrites all lines of a store that change, given the extents of the new lines.
+// Overwrites all lines that change, given the extents of the new lines.
 fn reflow_all<S: ParagraphStore<Kept>>(
     engine: &mut Engine,
     store: &mut S,

@@ -3,7 +3,7 @@ use lines::{Engine, Options};
 use std::alloc::Global;
 use ucd::{Cause, TableFault, Tables, UcdFiles};
 
-/// The table files of the tests.
+/// The seven table files, with the lines of `test_tables`.
 pub const FILES: UcdFiles<'_> = UcdFiles {
     bidi_class: test_tables::BIDI_CLASS,
     bidi_brackets: test_tables::BIDI_BRACKETS,

@@ -137,13 +137,13 @@ fn nobreak_ends_lines_at_mandatory_breaks_only(rt: HostRuntime) -> Result<(), Fa
     Ok(())
 }
 
-// Lays out a number of letters at a width of 1.
+// Lays out a paragraph of `len` letters at a width of 1.
 fn lay_out_letters(alloc: Global, engine: &mut Engine, len: usize) -> Result<Laid, Fail> {
     let text = vec![in alloc; 'a'; len]?;
     lay_out_characters(alloc, engine, text, 1)
 }
 
-// Returns whether each character of the longest paragraph has its own line.
+// Returns whether these are the line starts of the longest paragraph if each character has its own line.
 fn has_a_line_for_each(starts: &[u32]) -> bool {
     starts.len() == PARAGRAPH_LIMIT && starts.last().copied() == Some(1_048_575)
 }
@@ -163,7 +163,7 @@ fn longest_paragraph_at_width_one_has_a_line_per_letter(rt: HostRuntime) -> Resu
 }
 
 // Finds the lines of a paragraph at another width. Does not try again after an allocation failure, so that
-// the tests detect a mutant that reports failures without a cause.
+// the tests detect a mutant that reports one although no allocation failed.
 fn refill(alloc: Global, engine: &mut Engine, laid: &Laid, width: u16) -> Result<Fill, Fail>
     requires laid { IsLaidOut (rules_of engine.old) laid.now }
     requires width { 0 < width }
@@ -172,8 +172,8 @@ fn refill(alloc: Global, engine: &mut Engine, laid: &Laid, width: u16) -> Result
     Ok(engine.refill(alloc, laid, u32::from(width))?)
 }
 
-// Returns whether the engine has counted these numbers of analysed and filled characters, and whether the
-// number of written characters equals the number of filled characters.
+// Returns whether the engine has counted these numbers of analysed and filled characters, and as many written
+// characters as filled ones.
 fn counts(engine: &Engine, analysed: u64, filled: u64) -> bool {
     engine.analysed() == analysed && engine.filled() == filled && engine.written() == filled
 }

@@ -1,6 +1,6 @@
-//! Worked examples of sessions, and long lists of edits compared with new sessions, over both stores. The
-//! tests also pass if any one allocation fails: the edit then changes nothing and is retried. The
-//! exception is `run`, which is not retried.
+//! Worked examples of sessions, and long lists of edits whose results are compared with new sessions, over
+//! both stores. The tests also pass if any one allocation fails: the edit then changes nothing and is
+//! retried. The exception is `run`, which is not retried.
 mod edges;
 mod hits;
 mod measured;
@@ -129,7 +129,7 @@ fn same_line(left: Option<VisualLine<'_>>, right: Option<VisualLine<'_>>) -> boo
     }
 }
 
-// Returns whether `count` paragraphs from these indices on are equal.
+// Returns whether `count` paragraphs of two sessions, from these indices on, are equal.
 fn same_paragraphs<S: ParagraphStore<Kept>, T: ParagraphStore<Kept>>(
     left: &Session<S>,
     right: &Session<T>,
@@ -146,7 +146,7 @@ fn same_paragraphs<S: ParagraphStore<Kept>, T: ParagraphStore<Kept>>(
     all
 }
 
-// Returns whether `count` lines from these indices on are equal.
+// Returns whether `count` lines of two sessions, from these indices on, are equal.
 fn same_lines<S: ParagraphStore<Kept>, T: ParagraphStore<Kept>>(
     left: &Session<S>,
     right: &Session<T>,
@@ -204,7 +204,7 @@ fn pages(alloc: Global, count: usize) -> Result<Vec<u8>, AllocError> {
     }
 }
 
-// Returns what a session prints, if the buffer is large enough.
+// Returns what a session prints, or `None` if the buffer is too small.
 fn print<'a, S: ParagraphStore<Kept>>(
     session: &Session<S>,
     room: &'a mut [u8],
@@ -270,7 +270,7 @@ fn renew<S: ParagraphStore<Kept>>(
     )
 }
 
-// A session over some store; another session, whose whole text is replaced at once; and a buffer for the
+// A session that is edited, another session, whose whole text is replaced at once, and a buffer for the
 // output of both.
 #[derive(Drop)]
 struct Pair<S: ParagraphStore<Kept>, T: ParagraphStore<Kept>> {

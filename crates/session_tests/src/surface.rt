@@ -40,7 +40,7 @@ fn lay_out(alloc: Global, engine: &mut lines::Engine, text: &str, width: u32) ->
     }
 }
 
-// Returns whether a check holds for the layout of `a`, a space, alef and bet, which is one line: `a`, a
+// Returns whether a check holds for the layout of `a`, a space, alef and bet. Its only line shows `a`, a
 // space, bet and alef.
 fn of_laid<F: FnOnce(&lines::Laid) -> bool>(alloc: Global, check: F) -> bool
     requires { F.IsAlwaysCallable check }
@@ -391,7 +391,7 @@ fn write_writes_the_line_in_visual_order_and_a_newline(rt: HostRuntime) {
     );
 }
 
-// Returns the error from writing a line to a sink of two bytes.
+// Returns the error from writing a line to a sink of two bytes, or `None` if the line fits.
 fn fault_after_two_bytes(line: &lines::VisualLine<'_>) -> Option<lines::WriteFault> {
     let mut room: [u8; 2] = [0; 2];
     let mut sink = device::ToWrite::new(room.as_mut_slice());

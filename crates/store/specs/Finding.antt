@@ -43,12 +43,14 @@ found_at place = record {
   visits = place.visits;
 }
 
--- whether a search for number n in a unit finds the place, and the place has the sums of the items before it
+-- whether the place is that of number n in a unit, and `place.before` holds the sums of the items before the
+-- found one
 pub record IsPlace {P : Type 0} (G : Ghosts P) (unit : Counted) (items : List P) (n : ℕ) (place : Place) : Type 0 where
   pub finds : Finds (measure G unit) G.chars G.lines items n (found_at place)
   pub sums : AreSums G finds.before place.before
 
--- whether the place is the start of the item at an index, and has the sums of the items before it
+-- whether the place is the start of the item at an index, and `place.before` holds the sums of the items
+-- before it
 pub record IsItemPlace {P : Type 0} (G : Ghosts P) (items : List P) (index : ℕ) (place : Place) : Type 0 where
   pub index_is : place.index ≡ index
   pub rest : place.rest ≡ 0

@@ -5,7 +5,7 @@ use Rattle.store.specs.declared.sums.Sums.{Sums}
 use Rattle.store.specs.declared.sums.Unit.{Unit as Counted}
 use Rattle.store.specs.declared.sums.Unit.TheVariants.{Char, Line, Byte, Utf16}
 
--- the size of an item
+-- the size of an item in a unit
 abbrev pub measure : {P : Type 0} → Ghosts P → Counted → P → ℕ
 measure G Char = G.chars
 measure G Line = G.lines

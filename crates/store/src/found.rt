@@ -23,7 +23,7 @@ pub struct Found {
     pub visits: usize,
 }
 
-/// A `Found` under construction. `before` holds the sums over all items before this one.
+/// A search result while the store computes it. `before` holds the sums of the items before the found item.
 #[derive(Clone, Copy)]
 pub(crate) struct Place {
     pub(crate) index: usize,

@@ -59,8 +59,8 @@ fn balance<P: Measured>(left: Subtree<P>, node: DetachedNode<P>, right: Subtree<
     node.over(left, right)
 }
 
-// Joins two trees, the left of which is higher by 2. Makes one rotation, or two if the inner subtree of the
-// left tree is higher than its outer subtree.
+// Joins two trees with a node between them. The left tree is higher by 2. Makes one rotation, or two if the
+// inner subtree of the left tree is higher than its outer subtree.
 fn lean_left<P: Measured>(left: Subtree<P>, node: DetachedNode<P>, right: Subtree<P>) -> Subtree<P>
     requires fits { Fits P.Measured (in_order left ++ node ∷ in_order right) }
     requires two_higher { height left ≡ height right + 2 }
@@ -77,7 +77,7 @@ fn lean_left<P: Measured>(left: Subtree<P>, node: DetachedNode<P>, right: Subtre
     lift(outer, top, inner, node, right)
 }
 
-// Joins two trees, the right of which is higher by 2.
+// Joins two trees with a node between them. The right tree is higher by 2.
 fn lean_right<P: Measured>(left: Subtree<P>, node: DetachedNode<P>, right: Subtree<P>) -> Subtree<P>
     requires fits { Fits P.Measured (in_order left ++ node ∷ in_order right) }
     requires two_higher { height right ≡ height left + 2 }
@@ -94,8 +94,8 @@ fn lean_right<P: Measured>(left: Subtree<P>, node: DetachedNode<P>, right: Subtr
     lift(left, node, inner, top, outer)
 }
 
-// Joins three trees by a double rotation. The middle tree is higher by 1 than each of the other two, and its
-// root becomes the root of the joined tree.
+// Joins three trees, with a node between each two, by a double rotation. The middle tree is higher by 1 than
+// each of the other two, and its root becomes the root of the joined tree.
 fn lift<P: Measured>(
     left: Subtree<P>,
     before: DetachedNode<P>,
@@ -133,7 +133,7 @@ fn split<P: Measured>(tree: Subtree<P>, at: usize) -> (Subtree<P>, Subtree<P>)
     (join(left, top, middle), after)
 }
 
-// Removes the first item.
+// Removes the first item, and returns its node and the rest of the tree, or `None` if the tree is empty.
 fn take_first<P: Measured>(tree: Subtree<P>) -> Option<(DetachedNode<P>, Subtree<P>)>
     ensures { MatchOption result (tree ≡ Empty) (λ p. in_order tree ≡ p.0 ∷ in_order p.1) }
 {
@@ -184,7 +184,7 @@ fn build<P: Measured>(nodes: &mut Vec<DetachedNode<P>>, count: usize) -> Subtree
     join(left, top, right)
 }
 
-/// Replaces a range of items with the nodes of a list, in reverse order, and returns a tree of the old items.
+/// Replaces a range of items with the nodes of a list in reverse order. Returns a tree of the old items.
 pub(crate) fn put_in<P: Measured>(
     tree: &mut Subtree<P>,
     first: usize,

@@ -2,7 +2,7 @@
 ghost use Rattle.std.specs.Prelude.{◌≡◌, ℕ, refl};
 ghost use Rattle.store.specs.Exchanging.{raised};
 
-/// An item that has a count of characters, lines, UTF-8 bytes and UTF-16 code units.
+/// An item with its numbers of characters, lines, UTF-8 bytes and UTF-16 code units.
 pub trait Measured {
     ghost chars: { Self → ℕ };
 
@@ -63,7 +63,7 @@ pub trait Exchanger<P: Measured> {
     /// The type of the parts that are exchanged.
     type Part;
 
-    // The facts that determine which parts fit, and the result of an exchange. These facts do not change
+    // The facts that determine which parts fit and what an exchange results in. These facts do not change
     // while the exchanger counts its work.
     ghost Kind: { Type 0 };
 

@@ -50,31 +50,35 @@ pub trait ParagraphStore<P: Measured> {
         ensures ok { IfOk result (λ list. map (λ item. item.now) list.items ≡ items self.now) }
         ensures memory { OnErr result (0 < length (items self.now)) };
 
-    /// Finds the item that contains character `pos`. Characters are numbered from 0 across all items.
+    /// Finds the item that contains character `pos`, which must be less than `total_chars()`. Characters are
+    /// numbered from 0 across all items.
     fn find_char(&self, pos: usize) -> Found
         requires { pos < sum_by P.chars (items self.now) }
         ensures found { Finds P.chars P.chars P.lines (items self.now) pos result }
         ensures counts { CountsBefore P.bytes P.utf16 (items self.now) result };
 
-    /// Finds the item that contains line `n`. Lines are numbered from 0 across all items.
+    /// Finds the item that contains line `n`, which must be less than `total_lines()`. Lines are numbered
+    /// from 0 across all items.
     fn find_line(&self, n: usize) -> Found
         requires { n < sum_by P.lines (items self.now) }
         ensures found { Finds P.lines P.chars P.lines (items self.now) n result }
         ensures counts { CountsBefore P.bytes P.utf16 (items self.now) result };
 
-    /// Finds the item that contains UTF-8 byte `byte`. Bytes are numbered from 0 across all items.
+    /// Finds the item that contains UTF-8 byte `byte`, which must be less than `total_bytes()`. Bytes are
+    /// numbered from 0 across all items.
     fn find_byte(&self, byte: usize) -> Found
         requires { byte < sum_by P.bytes (items self.now) }
         ensures found { Finds P.bytes P.chars P.lines (items self.now) byte result }
         ensures counts { CountsBefore P.bytes P.utf16 (items self.now) result };
 
-    /// Finds the item that contains UTF-16 code unit `unit`. Code units are numbered from 0 across all items.
+    /// Finds the item that contains UTF-16 code unit `unit`, which must be less than `total_utf16()`. Code
+    /// units are numbered from 0 across all items.
     fn find_utf16(&self, unit: usize) -> Found
         requires { unit < sum_by P.utf16 (items self.now) }
         ensures found { Finds P.utf16 P.chars P.lines (items self.now) unit result }
         ensures counts { CountsBefore P.bytes P.utf16 (items self.now) result };
 
-    /// Finds the item at an index, with the sums of the items before it.
+    /// Finds the item at an index, which must be less than `count()`, with the sums of the items before it.
     fn find_item(&self, index: usize) -> Found
         requires { index < length (items self.now) }
         ensures found { FindsItem P.chars P.lines (items self.now) index result }

@@ -54,7 +54,7 @@ impl<P: Measured> Subtree<P> {
             unreachable!()
         };
         let node: &Node<P> = node;
-        // The invariants of the trees bound the sums.
+        // By the trees' invariants, these calls bound the sums.
         let (_height, _count, _sums) = (self.height(), self.count(), self.sums());
         let left = node.left.total(unit);
         if n < left {
@@ -94,7 +94,7 @@ impl<P: Measured> Subtree<P> {
             unreachable!()
         };
         let node: &Node<P> = node;
-        // The invariants of the trees bound the sums.
+        // By the trees' invariants, these calls bound the sums.
         let (_height, _sums) = (self.height(), self.sums());
         let (count, before) = (node.left.count(), node.left.sums());
         if index < count {

@@ -18,7 +18,7 @@ pub(crate) struct Subtree<P: Measured> {
     pub(crate) root: Option<Box<Node<P>>>,
 }
 
-/// The root of a tree, with the sums of all its items.
+/// The root of a tree. `height`, `count` and `sums` are those of the whole tree.
 #[cycle(subtree)]
 #[derive(Drop)]
 pub(crate) struct Node<P: Measured> {
@@ -51,7 +51,7 @@ impl<P: Measured> Model for Subtree<P> {
     ghost size_decreases = { λ a h. depth_le_length P.Measured a };
 }
 
-/// A node outside any tree, with its item.
+/// A node that is in no tree. It has an item and no subtrees.
 #[derive(Drop)]
 pub(crate) struct DetachedNode<P: Measured> {
     node: Box<Node<P>>,
@@ -129,7 +129,7 @@ impl<P: Measured> Subtree<P> {
         self.sums().total(unit)
     }
 
-    /// Returns the sums over all items, one more item, and all items of another tree.
+    /// Returns the sums over the items of this tree, one more item, and the items of another tree.
     pub(crate) fn sums_with(&self, item: &P, right: &Subtree<P>) -> Sums
         requires { SumsFit P.Measured (in_order self.now ++ item.now ∷ in_order right.now) }
         ensures { AreSums P.Measured (in_order self.now ++ item.now ∷ in_order right.now) result }
@@ -155,7 +155,7 @@ impl<P: Measured> Subtree<P> {
         ensures fits { Fits P.Measured (in_order self) }
         ensures balanced { IsBalanced self }
     {
-        // The invariants of the trees bound the sums.
+        // By the trees' invariants, these calls bound the sums.
         let (_count, _sums) = (self.count(), self.sums());
         match self.root {
             None => None,

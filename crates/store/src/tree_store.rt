@@ -194,7 +194,7 @@ fn take_down<P: Measured>(nodes: Vec<DetachedNode<P>>, items: &mut Vec<P>)
 }
 
 // Allocates the memory for a replacement: capacity for the old items, and a node for each new item. Fails if
-// the total number of kept and new items overflows.
+// an allocation fails, or if the total number of kept and new items overflows a `usize`.
 fn take_memory<P: Measured>(
     alloc: Global,
     kept: usize,

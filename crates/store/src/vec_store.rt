@@ -1,4 +1,4 @@
-//! The simple store: a list of items and its sums.
+//! The simple store: a list of items, with the sums of the items.
 ghost use Rattle.std.specs.Prelude.{◌≡◌, ◌+◌, ◌-◌, ◌^◌, ◌<◌, ◌≤◌, ◌++◌};
 ghost use Rattle.std.specs.Prelude.{ℕ, List, [], length, take, drop, reverse};
 ghost use Rattle.std.specs.Prelude.{slice_get, slice_range, option_map, sum_by, vec_len, vec_capacity};
@@ -113,7 +113,7 @@ fn move_last<P>(items: &mut Vec<P>, count: usize, old: &mut Vec<P>)
     old.reverse();
 }
 
-// Swaps the items in `first..second` with the items at and after `second`.
+// Moves the items in `first..second` to the end of the list.
 fn rotate<P>(items: &mut Vec<P>, first: usize, second: usize)
     requires { (first ≤ second) × (second ≤ length items.old.items) }
     ensures items { items.new.items ≡ take first items.old.items
@@ -124,8 +124,8 @@ fn rotate<P>(items: &mut Vec<P>, first: usize, second: usize)
     items[first..].rotate_left(start);
 }
 
-// Replaces the items in `first..second` with the new items, and moves the old items to `old`. Both lists must
-// have enough capacity.
+// Replaces the items in `first..second` with the new items, and moves the old items to `old`. `items` and
+// `old` must have enough capacity.
 fn put_in<P>(
     items: &mut Vec<P>,
     first: usize,

@@ -1,7 +1,7 @@
 -- How vector code encodes characters: tests for their lengths, and the bytes that are kept from each lane.
 use Rattle.std.specs.Prelude.{ℕ, ◌/◌, ◌%◌, ◌==◌, ◌++◌, nat_lt, Bool, List, [], ◌∷◌, take, if◌then◌else◌}
 
--- whether a number is below the upper bound of code points
+-- whether a number is at most U+10FFFF, the highest code point
 abbrev pub is_code : ℕ → Bool
 is_code c = nat_lt c 0x110000
 

@@ -3,7 +3,7 @@ use Rattle.std.specs.Prelude.{◌≡◌, ℕ, ◌+◌, ◌<◌, ◌≤◌, nat_l
 use Rattle.std.specs.Str.{chars}
 use Rattle.std.specs.Str.Lossy.{utf8_valid_len, utf8_error_len}
 
--- the characters before the first byte that is not UTF-8
+-- the characters of the longest prefix that is valid UTF-8
 abbrev pub front_of : List ℕ → List ℕ
 front_of bytes = chars (take (utf8_valid_len bytes) bytes)
 

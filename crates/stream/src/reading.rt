@@ -10,7 +10,7 @@ use std::io::ErrorKind;
 /// The size of a chunk in bytes: the maximum number of bytes requested from a source at a time.
 pub const CHUNK: usize = 65_536;
 
-// The documentation states this limit as a number. Contracts refer to the constant.
+// Checks the number that the documentation states, since contracts refer to the constant.
 const _: () = prove!(CHUNK == 65_536);
 
 /// Allocates a buffer of `len` zeros.

@@ -1,4 +1,4 @@
-//! Decodes characters of one or two bytes, with vectors.
+//! Decodes characters of one or two bytes, using vector instructions.
 ghost use Rattle.std.specs.Prelude.{◌≡◌, ◌+◌, ◌^◌, ◌++◌, ◌<◌, ◌≤◌, true, false, length, map, take};
 ghost use Rattle.std.specs.Prelude.{vec_len, vec_capacity};
 ghost use Rattle.std.specs.Char.{is_ascii};
@@ -72,7 +72,7 @@ pub fn is_ascii(bytes: u8x16) -> bool
     bytes.simd_ge(u8x16::splat(0x80)).to_bitmask() == 0
 }
 
-/// Returns whether no byte is in a character of more than two bytes.
+/// Returns whether no byte begins a character of more than two bytes.
 #[inline(always)]
 pub fn is_short(bytes: u8x16) -> bool
     ensures { result ≡ true → Each1 (λ byte. byte < 0xE0) bytes }
@@ -102,7 +102,8 @@ pub fn push_ascii(bytes: &[u8], characters: &mut Vec<char>)
     }
 }
 
-/// Adds the characters that begin with the marked bytes. These characters must have one or two bytes.
+/// Adds the characters that begin with the marked bytes to a list that has capacity for 16 more characters.
+/// The characters must have one or two bytes.
 #[inline(always)]
 pub fn push_marked(bytes: u8x16, marks: usize, characters: &mut Vec<char>)
     requires marks { marks < 2 ^ 16 }
@@ -149,9 +150,9 @@ fn write_marked(bytes: u8x16, marks: usize, out: &mut [char]) -> usize
     write_four(after_12, marks / 4096, out, fourth)
 }
 
-// Writes the characters that begin with the marked bytes among the first four, starting at an index of a
-// slice. Returns the index after these characters. Always writes four characters, so that there is no branch
-// on their number.
+// Writes the characters that begin with the marked bytes among the first four bytes, starting at an index of
+// a slice. Returns the index after these characters. Always writes four characters, so that there is no
+// branch on their number.
 #[inline(always)]
 fn write_four(bytes: u8x16, marks: usize, out: &mut [char], at: usize) -> usize
     requires marks { marks < 16 }
@@ -171,7 +172,7 @@ fn write_four(bytes: u8x16, marks: usize, out: &mut [char], at: usize) -> usize
     at + marks.count_ones() as usize
 }
 
-// Moves each marked byte among the first four, together with the byte after it, to a lane of its own.
+// Moves each marked byte among the first four bytes, together with the byte after it, to a lane of its own.
 #[inline(always)]
 fn pairs(bytes: u8x16, marks: usize) -> u32x4
     requires { marks < 16 }
@@ -192,7 +193,7 @@ fn decoded(pairs: u32x4) -> u32x4
     first.simd_lt(u32x4::splat(0x80)).select(first, long)
 }
 
-// Every code point of at most two bytes is a character.
+// Converts a code point to a character. Every code point of at most two bytes in UTF-8 is a character.
 #[inline(always)]
 fn valid(code: u32) -> char
     requires { code < 0x800 }

@@ -149,8 +149,8 @@ fn begins_between(text: &str, low: u8, high: u8) -> bool
     }
 }
 
-/// Returns the longest prefix of `bytes` that is valid UTF-8, and whether the bytes after it are invalid. The
-/// bytes after it are invalid if no character begins with them.
+/// Returns the longest prefix of `bytes` that is valid UTF-8, and whether the bytes after it are invalid.
+/// They are invalid if no character can begin with them.
 pub fn front(bytes: &[u8]) -> (&str, bool)
     ensures text { result.0.now ≡ take (utf8_valid_len bytes.now) bytes.now }
     ensures bad { result.1 ≡ is_bad bytes.now }

@@ -1,7 +1,7 @@
 //! Tools for the seven table files in a folder.
 //!
-//! - `table_tools image FOLDER FILE [VERSION]` writes a compiled image of the files to another file. The
-//!   installed command reads such an image, and the C library contains one.
+//! - `table_tools image FOLDER FILE [VERSION]` writes a compiled image of the files in FOLDER to FILE. The
+//!   installed command reads such an image, and the C library contains one for each version.
 //! - `table_tools properties FOLDER [VERSION]` prints the properties of characters. `tests/fribidi/run`
 //!   compares the tables of FriBidi's interface with this output.
 //!
@@ -47,7 +47,7 @@ fn run(rt: &HostRuntime, words: &[String]) -> Result<()> {
     )
 }
 
-// Returns the version with this name.
+// Returns the version with this name, or an error if the name is unknown.
 fn version_named(name: &str) -> Result<Version> {
     match name {
         "15.0" => Ok(Version::V15_0),

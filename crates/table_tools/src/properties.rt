@@ -7,9 +7,9 @@ use std::io::{BufWriter, Write};
 use tables::in_folder_as;
 use ucd::{BidiClass, LineDetail, Tables, Version};
 
-/// Prints the properties of characters, from the table files in a folder, which have the given version. Each
-/// line is one property of a character: a bidi class other than L, a bracket and whether it is an opening
-/// bracket, a mirror, or a line breaking class with its detail, if the character has a detail.
+/// Prints the properties of characters, from the table files of the given version in a folder. Each line has
+/// one property of a character: a bidi class other than L, the other bracket of its pair and whether the
+/// character opens the pair, a mirror, or the line breaking class and the detail of a character that has one.
 pub fn print_properties(rt: &HostRuntime, version: Version, folder: &str) -> Result<()> {
     let tables = in_folder_as(rt, version, folder)?;
     write_buffered(rt, &tables)
@@ -52,7 +52,7 @@ fn write_properties<W: Write>(tables: &Tables, c: char, output: &mut W) -> Resul
     Ok(())
 }
 
-// Returns FriBidi's name of a class.
+// Returns FriBidi's name for a class.
 fn name_of(class: BidiClass) -> &'static str {
     match class {
         BidiClass::L => "LTR",

@@ -27,7 +27,7 @@ IsUnusable bytes (Image why) = IsFirstFault bytes why
 IsUnusable bytes Memory = MayAllocate bytes
 IsUnusable bytes other = ⊥
 
--- the first fault of an image that must have this version, or an allocation failure
+-- the first fault of an image, `Version` if a valid image has another version, or an allocation failure
 abbrev pub IsUnusableAs : Version → List ℕ → FolderFault → Type 0
 IsUnusableAs version bytes (Image why) = IsFirstFault bytes why ⊎ ((why ≡ image.Version) × IsImage bytes × (image_version bytes ≢ version))
 IsUnusableAs version bytes Memory = MayAllocate bytes
@@ -70,7 +70,7 @@ module _ (has_file : ℕ → List ℕ → Type 0) (cannot_read : ℕ → Type 0)
   abbrev pub IsFileFault : FolderFault → Type 0
   IsFileFault = IsFileFaultAs V15_0
 
-  -- a folder that has an image with certain bytes, has an image that cannot be read, or has no image
+  -- a folder in which the image has certain bytes, cannot be read, or does not exist
   module _ (has_image : List ℕ → Type 0) (has_no_image cannot_read_image : Type 0) where
     -- the tables are those of the image, which has this version, or those of the files if there is no image
     abbrev pub AreInstalledAs : Version → Tables → Type 0

@@ -35,14 +35,15 @@ pub trait TableFolder {
         ensures ok { IfOk result (λ bytes. has_file self.now index bytes.items) }
         ensures err { IfErr result (IsUnread (cannot_read self.now index) (file_name index)) };
 
-    /// Reads the image, if there is one. Fails if the image cannot be read or memory runs out.
+    /// Reads the image, or returns `None` if there is none. Fails if the image cannot be read or memory runs
+    /// out.
     fn image(&self, alloc: Global) -> Result<Option<Vec<u8>>, FolderFault>
         ensures ok { IfOk result (λ image. MatchOption image (has_no_image self.now)
             (λ bytes. has_image self.now bytes.items)) }
         ensures err { IfErr result (IsUnread (cannot_read_image self.now) image_name) };
 }
 
-/// A folder of the file system.
+/// A folder in the file system.
 #[derive(Drop)]
 pub struct DiskFolder<'a> {
     rt: &'a HostRuntime,

@@ -103,8 +103,8 @@ pub fn from_installed<F: TableFolder>(alloc: Global, folder: &F) -> Result<Table
     from_installed_as(alloc, Version::V15_0, folder)
 }
 
-/// Reads tables of a version, as `from_installed` does. Fails with `Version` if the image is of another
-/// version.
+/// Reads tables of a version, as `from_installed` does. Fails with `Image(Version)` if the image is of
+/// another version.
 pub fn from_installed_as<F: TableFolder>(
     alloc: Global,
     version: Version,
@@ -121,7 +121,7 @@ pub fn from_installed_as<F: TableFolder>(
     }
 }
 
-/// Decodes an image of a version. Fails with `Version` if the image is of another version.
+/// Decodes an image of a version. Fails with `Image(Version)` if the image is of another version.
 pub fn of_image_as(alloc: Global, version: Version, bytes: &[u8]) -> Result<Tables, FolderFault>
     ensures ok { IfOk result (IsImageOf bytes.now) }
     ensures version { IfOk result (λ tables. tables.version ≡ version) }
@@ -135,7 +135,7 @@ pub fn of_image_as(alloc: Global, version: Version, bytes: &[u8]) -> Result<Tabl
     }
 }
 
-/// Decodes an image of any version.
+/// Decodes an image of any version. Fails with the first fault of the image, or if memory runs out.
 pub fn of_image(alloc: Global, bytes: &[u8]) -> Result<Tables, FolderFault>
     ensures ok { IfOk result (IsImageOf bytes.now) }
     ensures err { IfErr result (IsUnusable bytes.now) }

@@ -35,7 +35,7 @@ pub record IsDecoded (bytes : List ℕ) (n : ℕ) (before after : List ℕ) : Ty
   pub within : n ≤ length bytes
   pub text : (more : List ℕ) → lossy (bytes ++ more) ≡ characters ++ lossy (drop n bytes ++ more)
 
--- The bytes after the first n are only an incomplete character.
+-- The first n bytes were decoded. At most an incomplete character follows them.
 pub record IsAllDecoded (bytes : List ℕ) (n : ℕ) (before after : List ℕ) : Type 0 where
   pub decoded : IsDecoded bytes n before after
   pub rest : IsBeginning (drop n bytes)
@@ -68,12 +68,13 @@ pub record IsRead (n : ℕ) (old new : Decoder) (reader_old reader_new : Device)
   pub room : vec_len new.chunk ≡ vec_len old.chunk
   pub same : new ≡ record old { chunk = new.chunk }
 
--- The valid UTF-8 at the start of bytes has these characters, whatever follows. The other bytes wait for the next read.
+-- These are the characters of the valid UTF-8 at the start of `bytes`, whatever follows. The other bytes wait
+-- for the next read.
 pub record IsValidText (escapes : Escapes) (bytes waiting characters : List ℕ) (started started_new : Bool) : Type 0 where
   pub rest : waiting ≡ drop (utf8_valid_len bytes) bytes
   pub text : (more : List ℕ) → text_after escapes started (take (utf8_valid_len bytes) bytes ++ more) ≡ characters ++ text_after escapes started_new more
 
--- The characters of bytes were added to a list. Only an incomplete character waits for the next read.
+-- The characters of bytes were added to a list. At most an incomplete character waits for the next read.
 pub record Takes (strict : Bool) (escapes : Escapes) (bytes : List ℕ) (old new : Decoder) (before after : List ℕ) : Type 0 where
   pub characters : List ℕ
   pub added : after ≡ before ++ characters

@@ -18,7 +18,7 @@ abbrev pub or_else : Option ℕ → Option ℕ → Option ℕ
 or_else (Some level) other = Some level
 or_else None other = other
 
--- the level of the first strong character of the first paragraph that has one
+-- the level of the first strong character of the first paragraph that has one, or `None` if none has
 abbrev pub first_level : Tables → List (List ℕ) → Option ℕ
 first_level tables [] = None
 first_level tables (paragraph ∷ following) = or_else (first_strong_level (map (class_of tables) paragraph)) (first_level tables following)
@@ -31,12 +31,12 @@ shown_level rules text = first_level rules.tables (paragraphs (cut_by rules) (sh
 abbrev pub are_weak : Rules → List (List ℕ) → Bool
 are_weak rules blocks = list_all (λ block. not (is_some (shown_level rules block))) blocks
 
--- the base direction with this level; left-to-right if there is no strong character
+-- the base direction that has this level; left-to-right for `None`
 abbrev pub base_by : Option ℕ → Base
 base_by level = if unwrap_or level 0 == 1 then Rtl else Ltr
 
--- the base direction of an input: the direction of the first paragraph with a strong character, among the paragraphs
--- that the input's first characters show
+-- the base direction of an input: that of the first paragraph with a strong character among those that the
+-- first `FIRST_CHARACTERS` characters show
 abbrev pub direction_of : Rules → Escapes → List ℕ → Base
 direction_of rules escapes bytes = base_by (shown_level rules (take FIRST_CHARACTERS (input_text escapes bytes)))
 

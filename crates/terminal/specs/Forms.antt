@@ -5,7 +5,7 @@ use Rattle.lines.specs.declared.options.Options.{Options}
 use Rattle.lines.specs.declared.printing.print.Print.{Print}
 use Rattle.terminal.specs.declared.form.Form.{Form}
 
--- the maximum width, used for lines that end at mandatory breaks only
+-- the maximum width, used if lines end at mandatory breaks only
 abbrev pub UNLIMITED : ℕ
 UNLIMITED = 2 ^ 32 - 1
 

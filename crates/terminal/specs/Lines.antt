@@ -19,12 +19,12 @@ style_on styles k = slice_index_or styles k DEFAULT
 abbrev pub line_cells : Visual → ℕ → ℕ → List ℕ
 line_cells visual c k = if is_measured visual then c ∷ [] else cells visual c k
 
--- characters in visual order, given their positions in the line, each with the style of its position
+-- characters in visual order, each with the style at its position, given these positions in the line
 abbrev pub styled_chars : Visual → List Style → List ℕ → List ℕ → List (ℕ × Style)
 styled_chars visual styles (c ∷ chars) (k ∷ vtol) = in_style (style_on styles k) (line_cells visual c k) ++ styled_chars visual styles chars vtol
 styled_chars visual styles chars vtol = []
 
--- the characters of a line
+-- the characters of a line in visual order, with their styles
 abbrev pub line_chars : Print → Visual → List Style → List (ℕ × Style)
 line_chars print visual styles = styled_chars visual styles (ordered_chars print visual) visual.vtol
 

@@ -14,15 +14,15 @@ last_of (c ∷ []) = Some c
 last_of (c ∷ d ∷ text) = last_of (d ∷ text)
 
 -- Whether a text with this last character ends a line: the character has bidi class B, or line breaking class BK, CR,
--- LF or NL. An empty text has no line to end.
+-- LF or NL. An empty text counts as ended, since it has no line to end.
 abbrev pub is_ended : Tables → Option ℕ → Bool
 is_ended tables last = option_map_or (ends_line tables) last true
 
 abbrev pub without_last : List ℕ → List ℕ
 without_last bytes = take (length bytes - 1) bytes
 
--- The page of an input. If the input is the last one and its text does not end a line, the page has no
--- newline at its end. `last` is the last character of the text.
+-- The output for an input, given its page. If the input is the last one and its text does not end a line, the
+-- output lacks the newline at the end of the page. `last` is the last character of the text.
 abbrev pub ended_page : Tables → Bool → Option ℕ → List ℕ → List ℕ
 ended_page tables is_last last page = if is_last && not (is_ended tables last) then without_last page else page
 

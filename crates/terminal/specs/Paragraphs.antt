@@ -21,7 +21,7 @@ module _ (prefix : Option LinePrefix) (width : ℕ) (print : Print) (layout : La
   abbrev pub styled_layout : List ℕ
   styled_layout = flat_map styled_nth (enumerate_from 0 layout.lines)
 
--- the printed bytes of a paragraph's fresh layout, given the styles of its characters
+-- the printed bytes of a paragraph that is laid out anew, given the styles of its characters
 unfoldable pub styled_bytes : Option LinePrefix → Rules → ℕ → Print → List ℕ → List Style → List ℕ
 styled_bytes prefix rules width print text styles = encode_utf8_all (styled_layout prefix width print (layout_of rules width text) styles)
 

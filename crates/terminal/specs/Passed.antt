@@ -11,8 +11,8 @@ pub record Skips (n : ℕ) (text : List ℕ) : Type 0 where
   pub next : (more : List ℕ) → next_character (text ++ more) ≡ next_character (drop n text ++ more)
   pub known : (more : List ℕ) → knows_next (text ++ more) ≡ knows_next (drop n text ++ more)
 
--- The first part of a text whose end is not known begins at `start`, and `scanned` of its characters were
--- scanned.
+-- The first part whose end is not known begins at index `start` of a text. `scanned` characters of this part
+-- were scanned.
 pub record HasPassed (passed : Passed) (text : List ℕ) : Type 0 where
   pub within : passed.start + passed.scanned ≤ length text
   pub skips : Skips passed.start text

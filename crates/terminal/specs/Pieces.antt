@@ -21,7 +21,7 @@ IsWhole rules text = paragraphs (cut_by rules) text ≡ text ∷ []
 abbrev pub has_over : Rules → List ℕ → Bool
 has_over rules text = list_any (λ paragraph. nat_lt PARAGRAPH_LIMIT (length paragraph)) (paragraphs (cut_by rules) text)
 
--- the first n pieces of a text, each as long as a paragraph may be, except for the last one
+-- the first n pieces of a text, each as long as a paragraph may be, except that the last may be shorter
 abbrev pub first_pieces : {A : Type 0} → ℕ → List A → List (List A)
 first_pieces zero text = []
 first_pieces (suc n) [] = []
@@ -31,7 +31,7 @@ first_pieces (suc n) (c ∷ text) = take PARAGRAPH_LIMIT (c ∷ text) ∷ first_
 unfoldable pub pieces : {A : Type 0} → List A → List (List A)
 pieces text = first_pieces (length text) text
 
--- options with the direction of a base level
+-- options whose base direction is that of a base level
 abbrev pub directed : Options → ℕ → Options
 directed options base = record options { base = if is_odd base then Rtl else Ltr }
 

@@ -1,4 +1,4 @@
--- Prefixes of paragraphs, which are on each line.
+-- Prefixes of paragraphs, which are printed on each line or only on the first.
 use Rattle.std.specs.Prelude.{ℕ, zero, suc, ◌-◌, min, nat_lt, ◌==◌, Bool, true, false, ◌&&◌, List, [], ◌∷◌, length, take, drop, replicate, slice_index, slice_range, encode_utf8_all, Option, Some, None, option_map, if◌then◌else◌}
 use Rattle.std.specs.Option.{option_map_or}
 use Rattle.std.specs.Str.{chars}
@@ -21,7 +21,7 @@ use Rattle.terminal.specs.declared.form.Form.{Form}
 use Rattle.terminal.specs.declared.form.Prefix.{Prefix}
 use Rattle.terminal.specs.declared.form.Prefix.TheVariants as prefix
 
--- whether a space may follow a character of a quote, or `None` if the character ends the quote
+-- whether a space may follow a character of a quote, or `None` if the character is not part of the quote
 abbrev pub quoted : Bool → ℕ → Option Bool
 quoted spaced c = if c == 0x3E then Some true else if spaced && c == 0x20 then Some false else None
 
@@ -35,7 +35,8 @@ abbrev pub without_separator : Tables → List ℕ → List ℕ
 without_separator tables text =
     let n = length text in take (n - separator_len tables (slice_index text (n - 2)) (slice_index text (n - 1))) text
 
--- the number of characters that a pattern matches at the start of a text, given the span in bytes of its leftmost match
+-- the number of characters that a pattern matches at the start of a text, given the byte span of its leftmost
+-- match; 0 if this match starts later
 abbrev pub span_len : List ℕ → ℕ × ℕ → ℕ
 span_len bytes span = if span.0 == 0 then length (chars (slice_range bytes span.0 span.1)) else 0
 
@@ -67,18 +68,19 @@ prefix_options options base = record options { base = if is_odd base then Rtl el
 abbrev pub prefix_layout : Rules → ℕ → List ℕ → Layout
 prefix_layout rules base text = layout_of (with_options rules (prefix_options rules.options base)) UNLIMITED text
 
--- the only line of a layout, if it is narrower than the width
+-- the only line of a layout, or `None` if there are several or it is not narrower than the width
 abbrev pub narrow_line : ℕ → List Visual → Option Visual
 narrow_line width (line ∷ []) = if nat_lt line.columns width then Some line else None
 narrow_line width lines = None
 
--- the text after a prefix, or a newline if there is none
+-- a list, or only `a` if the list is empty; a newline thus follows a prefix that has no text after it
 abbrev pub or_one : {A : Type 0} → A → List A → List A
 or_one a [] = a ∷ []
 or_one a (b ∷ list) = b ∷ list
 
--- What is printed on each line for a prefix: its characters in their styles, or as many spaces as the prefix has
--- columns. A right-to-left prefix is printed to the right of each line.
+-- What is printed for a prefix: its characters in their styles. On lines after the first, a prefix that is
+-- not `repeated` becomes as many spaces as it has columns. A right-to-left prefix is printed to the right of
+-- each line.
 abbrev pub line_prefix : Bool → Print → Visual → List Style → LinePrefix
 line_prefix repeated print line styles = record {
   first = line_chars print line styles;
@@ -87,13 +89,13 @@ line_prefix repeated print line styles = record {
 }
 
 module _ (rules : Rules) (form : Form) (text : List ℕ) (styles : List Style) where
-  -- the first n characters of a paragraph as a prefix, if they are not too wide
+  -- the line of a prefix that consists of a paragraph's first n characters, or `None` if they are too wide
   abbrev pub prefix_line : ℕ → Option Visual
   prefix_line n =
       narrow_line (width_of form) (visuals (prefix_layout rules (prefix_base form.prefix (base_of rules (or_one 10 (drop n text)))) (take n text)))
 
-  -- The printed bytes of a paragraph whose first n characters are a prefix with the given line. The text after the
-  -- prefix is laid out as a separate paragraph.
+  -- The printed bytes of a paragraph whose first n characters are a prefix with the given line, or text if
+  -- there is no line. The text after the prefix is laid out as a separate paragraph.
   abbrev pub bytes_after : ℕ → Option Visual → List ℕ
   bytes_after n None = styled_bytes None rules (width_of form) (print_of form) text styles
   bytes_after n (Some line) =

@@ -24,7 +24,7 @@ use Rattle.terminal.specs.declared.form.Form.{Form}
 abbrev pub blocks_page : Rules → Form → List (List ℕ) → List ℕ
 blocks_page rules form parts = flat_map (block_page rules form) (shown_blocks START parts)
 
--- whether a block is within the limit of a paragraph
+-- whether a block is within the limit for paragraphs
 abbrev pub is_within : List ℕ → Bool
 is_within block = nat_le (length block) PARAGRAPH_LIMIT
 
@@ -35,7 +35,7 @@ are_within parts = list_all is_within parts
 abbrev pub ArePermitted : Form → List (List ℕ) → Type 0
 ArePermitted form parts = form.strict ≡ true → are_within parts ≡ true
 
--- whether a paragraph of what blocks show is over the limit, so that it is laid out in pieces
+-- whether blocks show a paragraph that is over the limit, so that it is laid out in pieces
 abbrev pub have_over : Rules → Pen → List (List ℕ) → Bool
 have_over rules pen parts = list_any (λ shown. has_over rules (characters_of shown)) (shown_blocks pen parts)
 
@@ -52,7 +52,8 @@ pub record BeginsWith (rules : Rules) (form : Form) (bytes : List ℕ) (ended : 
   pub blocks : (more : List ℕ) → blocks (cut_by rules) ((concat ended ++ rest) ++ more) ≡ ended ++ blocks (cut_by rules) (rest ++ more)
   pub permitted : ArePermitted form ended
 
--- All blocks that have ended. If the form is strict, a block has ended only if something follows it.
+-- `ended` are all blocks that have ended. If the form is strict, a block has ended only if something follows
+-- it.
 pub record HasEnded (rules : Rules) (form : Form) (bytes : List ℕ) (ended : List (List ℕ)) : Type 0 where
   pub rest : List ℕ
   pub begins : BeginsWith rules form bytes ended rest

@@ -74,11 +74,13 @@ AddsLast rules form is_last text old new true =
     (form.strict ≡ true) × ((parts : List (List ℕ)) × (first : List ℕ) × (others : List (List ℕ)) × (blocks (cut_by rules) text ≡ parts ++ first ∷ others) × (are_within parts ≡ true)
     × (PARAGRAPH_LIMIT + 1 ≤ length first) × (new.page.bytes.items ≡ old.page.bytes.items ++ pages rules form (pen_of old.scanner) parts))
 
--- the characters at the end of an input, given how many bytes are left
+-- the characters to add at the end of an input: U+FFFD if it ends inside a character, of which `waiting`
+-- bytes were read
 abbrev pub last_characters : ℕ → List ℕ
 last_characters waiting = if nat_lt 0 waiting then 0xFFFD ∷ [] else []
 
--- why a run ends after a chunk, given whether a block is too long, and whether the bytes from an index on are not UTF-8
+-- why a run ends after a chunk, or `None` if it continues, given whether a block is too long, and whether the
+-- bytes from index n on are invalid UTF-8
 abbrev pub fault_after : Bool → Bool → ℕ → Option Fault
 fault_after true stops n = Some f.ParagraphTooLong
 fault_after false true n = Some (f.NotUtf8 n)

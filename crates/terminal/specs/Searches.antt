@@ -36,7 +36,8 @@ pub record HasSearchedAll (rules : Rules) (place : Searched) (text : List ℕ) :
   pub searched : HasSearched rules place text
   pub is_open : IsOpen (cut_by rules) place.scanned (drop place.start text)
 
--- the result for a text: its direction whatever follows, or the state of the search
+-- the result for a text: its direction if that does not depend on what follows, and otherwise the state of
+-- the search
 abbrev pub Finds : Rules → List ℕ → Search → Option Base → Type 0
 Finds rules text new (Some base) = (more : List ℕ) → base ≡ text_direction rules (text ++ more)
 Finds rules text new None = (new.text.items ≡ text) × (length text < FIRST_CHARACTERS) × HasSearchedAll rules new.searched text

@@ -14,7 +14,7 @@ use Rattle.terminal.specs.declared.form.Escapes.{Escapes}
 use Rattle.terminal.specs.declared.form.Escapes.TheVariants.{Keep, Strip, Text}
 use Rattle.terminal.specs.declared.form.Form.{Form}
 
--- the characters of an input without the U+FEFF that it may begin with; invalid UTF-8 is U+FFFD
+-- the characters of an input without the U+FEFF that it may begin with; invalid UTF-8 becomes U+FFFD
 abbrev pub without_mark : List ℕ → List ℕ
 without_mark [] = []
 without_mark (c ∷ text) = if c == 0xFEFF then text else c ∷ text
@@ -42,7 +42,7 @@ in_mode Keep shown = shown
 in_mode Strip shown = in_style DEFAULT (characters_of shown)
 in_mode Text shown = shown
 
--- a character that cannot be in a sequence or an overstrike, and is not dropped
+-- whether a character cannot be in a sequence or an overstrike, and is not dropped
 abbrev pub is_apart : ℕ → Bool
 is_apart c = not (is_inline c || is_dropped c)
 

@@ -42,7 +42,7 @@ impl Buffers {
     }
 }
 
-// Replaces the numbers with zeros.
+// Replaces the numbers with `len` zeros.
 fn put_zeros(len: usize, numbers: &mut Vec<usize>) -> Result<(), AllocError>
     ensures { OnOk result ((length numbers.new.items ≡ len)
         × ((k : ℕ) → slice_index numbers.new.items k ≡ 0)) }
@@ -69,7 +69,7 @@ fn number_mode(
     }
 }
 
-// Returns where the paragraph at an index of a block ends.
+// Returns the end of the paragraph that starts at an index of a block.
 fn paragraph_end(engine: &Engine, characters: &[char], at: usize) -> usize
     requires at { at < length characters.now }
     ensures within { (at < result) × (result ≤ length characters.now) }

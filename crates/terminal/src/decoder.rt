@@ -74,7 +74,7 @@ impl Decoder {
     }
 
     /// Decodes the waiting bytes and `len` more bytes, and adds their characters to a text. If `strict`,
-    /// stops at the first invalid UTF-8, drops the rest, and returns whether there was any. After a failed
+    /// stops at the first invalid UTF-8 and drops the rest. Returns whether it stopped. After a failed
     /// allocation, some characters may be missing.
     pub(crate) fn decode(
         &mut self,
@@ -140,7 +140,8 @@ fn end_of(stops: bool, decoded: usize, filled: usize) -> usize
     if stops { decoded } else { filled }
 }
 
-/// Adds U+FFFD to a text if an input ends with this number of bytes of an incomplete character.
+/// Adds U+FFFD to a text unless `waiting`, the byte count of an incomplete character at the end of an input,
+/// is 0.
 pub(crate) fn push_end(waiting: usize, text: &mut Vec<char>) -> Result<(), AllocError>
     ensures { OnOk result (text.new.items ≡ text.old.items
         ++ (if nat_lt 0 waiting then 0xFFFD ∷ [] else [])) }

@@ -20,7 +20,7 @@ use lines::{Engine, Options};
 use sequences::Scanner;
 use std::alloc::{AllocError, Global};
 
-/// The number of characters, including sequences, that the direction of a text depends on.
+/// The maximum number of characters, including sequences, that the direction of a text depends on.
 pub const FIRST_CHARACTERS: usize = 65_536;
 
 /// How far the beginning of a text was searched for the text's direction.
@@ -56,7 +56,7 @@ impl Searched {
     }
 }
 
-// Returns the base level of a paragraph.
+// Returns the base level of a paragraph if the option for the base direction is `base`.
 fn level_by(engine: &mut Engine, base: Base, paragraph: &[char]) -> u8
     ensures level { result ≡ base_level_of (map (class_of (rules_of engine.old).tables) paragraph.now) base }
     ensures rules { SameRules engine.old engine.new }
@@ -68,7 +68,7 @@ fn level_by(engine: &mut Engine, base: Base, paragraph: &[char]) -> u8
     level
 }
 
-// Returns the level of a paragraph's first strong character outside all isolates.
+// Returns the level of a paragraph's first strong character outside all isolates, or `None` if it has none.
 fn strong_level(engine: &mut Engine, paragraph: &[char]) -> Option<u8>
     ensures level { result ≡ first_strong_level (map (class_of (rules_of engine.old).tables) paragraph.now) }
     ensures rules { SameRules engine.old engine.new }
@@ -94,7 +94,7 @@ fn paragraph_len(engine: &Engine, text: &[char]) -> usize
     }
 }
 
-// Returns the level of the first strong character of the first paragraph that has one.
+// Returns the level of the first strong character of the first paragraph that has one, or `None` if none has.
 fn first_level(engine: &mut Engine, text: &[char]) -> Option<u8>
     ensures level { result ≡ first_level (rules_of engine.old).tables
         (paragraphs (cut_by (rules_of engine.old)) text.now) }
@@ -160,9 +160,9 @@ fn known_level(
     }
 }
 
-/// Returns the base direction of a text that begins with these characters, of which there are at most
-/// `FIRST_CHARACTERS`. If the direction depends on what follows, returns how far the characters have been
-/// searched.
+/// Returns the base direction of a text that begins with these characters. There must be at most
+/// `FIRST_CHARACTERS` of them. If the direction depends on what follows, returns how far the characters have
+/// been searched.
 pub(crate) fn known_base(
     alloc: Global,
     engine: &mut Engine,
@@ -187,7 +187,7 @@ pub(crate) fn known_base(
     }
 }
 
-/// Returns the base direction of a text that consists of these characters.
+/// Returns the base direction of a complete text, given how far it was searched.
 pub(crate) fn whole_base(
     alloc: Global,
     engine: &mut Engine,
@@ -224,9 +224,9 @@ fn decode_start(escapes: Escapes, bytes: &[u8], text: &mut Vec<char>) -> Result<
     Ok(n)
 }
 
-/// Returns the base direction of a text: the direction of the first paragraph with a strong character, among
-/// the paragraphs that the text's first 65,536 characters show, or left-to-right if there is none. Decodes
-/// its bytes as `run` does.
+/// Returns the base direction of a text. It is the direction of the first paragraph with a strong character
+/// among those that the text's first 65,536 characters show, or left-to-right if there is none. Decodes its
+/// bytes as `run` does.
 pub fn whole_direction(
     alloc: Global,
     engine: &mut Engine,

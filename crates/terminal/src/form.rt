@@ -11,13 +11,13 @@ pub enum Escapes {
     Keep,
     /// The output has no styles.
     Strip,
-    /// Sequences and overstrikes are not recognized. The controls that are otherwise dropped are shown as
-    /// other characters.
+    /// Sequences and overstrikes are not recognized. Controls that the other modes drop are replaced by their
+    /// pictures.
     Text,
 }
 
 /// What counts as a prefix at the start of a paragraph. The text after the prefix is laid out as a separate
-/// paragraph, at the remaining width. The tab stops are counted from the start of this paragraph.
+/// paragraph, at the remaining width. Tab stops are counted from the start of that text.
 #[derive(Clone, Copy, Debug)]
 pub enum Prefix<'a> {
     /// There are no prefixes.

@@ -72,7 +72,7 @@ impl Held {
     }
 
     // Decodes the waiting bytes and `len` more bytes, and adds the lines of the blocks that have ended to the
-    // page, up to a block that is too long. Returns why the run ends, if it does.
+    // page, up to a block that is too long. Returns why the run ends, or `None` if it continues.
     fn gather(
         &mut self,
         alloc: Global,
@@ -127,8 +127,8 @@ impl Held {
     }
 }
 
-// Returns why a run ends after a chunk, given whether a block is too long, and whether the bytes from an
-// index on are not UTF-8.
+// Returns why a run ends after a chunk, or `None` if it continues. `stops` means that the bytes from the
+// index `at` on are invalid UTF-8.
 fn fault_of(is_long: bool, stops: bool, at: u64) -> Option<Fault>
     ensures { result ≡ fault_after is_long stops at }
 {
@@ -233,10 +233,10 @@ fn step<R: Source, W: Sink>(
 ///
 /// Invalid UTF-8 is read as U+FFFD, unless the form is strict, and a U+FEFF at the start of the text is
 /// dropped. The lines of a paragraph are written as soon as its end is known, before more is read. Only the
-/// last paragraph and one chunk of the input are kept in memory.
+/// unfinished paragraph and one chunk of the input are kept in memory.
 ///
-/// With `is_last`, the last newline is left out if the text does not end a line: its last character has
-/// neither bidi class B nor line breaking class BK, CR, LF or NL.
+/// With `is_last`, the last newline is left out if the text does not end a line. A text ends a line if its
+/// last character has bidi class B, or line breaking class BK, CR, LF or NL.
 ///
 /// A paragraph over `PARAGRAPH_LIMIT` is laid out in pieces of this length, in the direction of the first
 /// piece, unless the form is strict. Returns whether there was such a paragraph.
@@ -245,8 +245,8 @@ fn step<R: Source, W: Sink>(
 ///
 /// - `Read`: the source failed. All paragraphs that have ended were written.
 /// - `Write`: the sink failed.
-/// - `NotUtf8`: the form is strict, and the input is not UTF-8. All paragraphs before the first invalid byte,
-///   except the last one, were written.
+/// - `NotUtf8`: the form is strict, and the input is not UTF-8. All paragraphs before the first invalid byte
+///   were written, except for the last of them.
 /// - `ParagraphTooLong`: the form is strict, and a paragraph with its sequences is longer than
 ///   `PARAGRAPH_LIMIT`. All paragraphs before it were written.
 /// - `Memory`: an allocation failed.

@@ -66,8 +66,8 @@ fn search_end(engine: &Engine, text: &[char], from: usize, passed: Passed) -> Fi
     FirstEnd::After(text.len(), Passed::nothing())
 }
 
-// Returns the index of the first character, from an index on, that is followed by a paragraph boundary, or of
-// the last character. No block ends before this index, whatever follows the text.
+// Returns the index of the first character, from an index on, that a paragraph boundary follows, or of the
+// last character if there is none. No block ends before this index, whatever follows the text.
 fn skip_uncut(engine: &Engine, text: &[char], from: usize) -> usize
     requires within { from ≤ length text.now }
     requires none { AreNoEnds (cut_by (rules_of engine.now)) from text.now }
@@ -81,8 +81,8 @@ fn skip_uncut(engine: &Engine, text: &[char], from: usize) -> usize
     }
 }
 
-/// Finds the first end of a block in a text. No block may end before `from`, whatever follows the text.
-/// `passed` is how far the text after the character at `from` was scanned.
+/// Finds the first end of a block in a text. It must be known that no block ends before `from`, whatever
+/// follows the text. `passed` is how far the text after the character at `from` was scanned.
 pub(crate) fn first_end(engine: &Engine, text: &[char], from: usize, passed: Passed) -> FirstEnd
     requires within { from ≤ length text.now }
     requires none { AreNoEnds (cut_by (rules_of engine.now)) from text.now }

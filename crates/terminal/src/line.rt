@@ -17,7 +17,7 @@ use lines::{Print, VisualLine};
 use sequences::{StyledText, push_between};
 use std::alloc::AllocError;
 
-// Appends the sequences that change the style with one number to the style with another.
+// Appends the sequences that switch from the style with the number `before` to the style with `number`.
 fn push_change(
     text: &StyledText,
     before: usize,
@@ -69,8 +69,8 @@ fn char_at(text: &[char], at: usize) -> char
     if at < text.len() { text[at] } else { '\0' }
 }
 
-// Returns the number of spaces in place of the tab at a visual position of a line, or 0 if the character
-// there is not a tab.
+// Returns how many spaces replace the tab at a visual position of a line, or 0 if the character there is not
+// a tab.
 fn spaces_at(line: &VisualLine<'_>, text: &[char], place: usize) -> usize
     requires text { text.now ≡ line.now.text }
     requires plain { is_measured line.now ≡ false }
@@ -243,8 +243,8 @@ fn push_shown(
     push_chars(line, part, &form.print, padded, out)
 }
 
-// Appends what a prefix prints on a line, given the number of the style before it. Returns the number of the
-// last style.
+// Appends what is printed for a prefix on a line, given the number of the style before it. Returns the number
+// of the last style.
 fn push_prefix(
     prefix: &PrefixLine<'_>,
     is_first: bool,
@@ -320,7 +320,7 @@ fn push_all(
     }
 }
 
-/// Appends a line with the styles of its characters. `part` has the shown characters of the line.
+/// Appends a line with the styles of its characters. `part` must hold the line's shown characters.
 pub(crate) fn push_line(
     line: &VisualLine<'_>,
     part: &Part<'_>,

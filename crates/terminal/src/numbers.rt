@@ -38,7 +38,7 @@ impl<'a> Part<'a> {
         }
     }
 
-    /// Returns the characters in a range, with only their style numbers.
+    /// Returns the characters in a range, with exactly their style numbers.
     pub(crate) fn paragraph(&self, start: usize, end: usize) -> Part<'a>
         requires within { (start ≤ end) × (end ≤ length self.now.characters.now) }
         requires len { length self.now.numbers.now ≡ length self.now.characters.now }

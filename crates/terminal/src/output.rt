@@ -81,7 +81,7 @@ impl Output {
         }
     }
 
-    // Adds the lines of a block, and returns the last character that it shows.
+    // Adds the lines of a block, and returns the last character that it shows, or `None` if it shows none.
     fn push(
         &mut self,
         alloc: Global,
@@ -109,7 +109,7 @@ impl Output {
         Ok(shown.last)
     }
 
-    /// Adds the lines of the blocks of a text whose ends are known, up to a block that is too long. If the
+    /// Adds the lines of those blocks of a text that have a known end, up to a block that is too long. If the
     /// form is strict, holds back a block that nothing follows yet. No block ends before the index `scanned`,
     /// whatever follows the text. If the character there is a CR, the text after it was scanned as far as
     /// `passed`.
@@ -202,8 +202,8 @@ impl Output {
         Ok(false)
     }
 
-    // Removes the last newline if the text is the last one and does not end with a line end. `last` is the
-    // last character that the text shows.
+    // Removes the last newline if the text is the last one and does not end a line. `last` is the last
+    // character that the text shows.
     fn end_page(&mut self, engine: &Engine, is_last: bool, last: Option<char>)
         ensures page { self.new.page.bytes.items
             ≡ ended_page (rules_of engine.now).tables is_last last self.old.page.bytes.items }

@@ -16,7 +16,7 @@ use lines::{Engine, Options, PARAGRAPH_LIMIT};
 use std::alloc::{AllocError, Global};
 use stream::Page;
 
-// Returns where the piece at an index of a paragraph ends.
+// Returns the end of the piece that starts at an index of a paragraph of length `len`.
 fn piece_end(at: usize, len: usize) -> usize
     requires { at < len }
     ensures within { (at < result) × (result ≤ len) }
@@ -58,7 +58,7 @@ fn push_rest(
     Ok(())
 }
 
-// Returns options with the direction of a base level.
+// Returns the options with the base direction set to that of a base level.
 fn directed(options: Options, base: u8) -> Options
     ensures { result ≡ directed options base }
 {

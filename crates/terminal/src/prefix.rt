@@ -14,7 +14,8 @@ use lines::{Engine, Laid, Options, VisualLine, char_count};
 use regex::{Match, Regex};
 use std::alloc::{AllocError, Global};
 
-// Returns whether a space may follow a character of a quote, or `None` if the character ends the quote.
+// Returns whether a space may follow a character of a quote, or `None` if the character is not part of the
+// quote.
 fn quoted(spaced: bool, c: char) -> Option<bool>
     ensures { result ≡ quoted spaced c }
 {
@@ -152,7 +153,7 @@ pub(crate) fn lay_out_prefix(
     laid
 }
 
-/// Returns the only line of a layout, if it is narrower than the width.
+/// Returns the only line of a layout, or `None` if there are several or it is not narrower than the width.
 pub(crate) fn narrow_line(laid: &Laid, width: u32) -> Option<VisualLine<'_>>
     ensures { result ≡ narrow_line width (visuals laid.now) }
 {

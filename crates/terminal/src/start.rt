@@ -69,8 +69,8 @@ impl Search {
         })
     }
 
-    // Decodes the waiting bytes and the `len` bytes that were read last. Returns the direction if it does not
-    // depend on what follows.
+    // Decodes the waiting bytes and the `len` bytes that were read last. Returns the direction, or `None` if
+    // it depends on what follows.
     fn advance(
         &mut self,
         alloc: Global,
@@ -115,7 +115,8 @@ impl Search {
         whole_base(alloc, engine, &self.text, self.searched)
     }
 
-    // Reads a chunk. Returns the direction if it is known, and whether the text has ended.
+    // Reads a chunk. Returns the direction and whether the text has ended, or `None` if the direction is not
+    // known yet.
     fn step<R: Source>(
         &mut self,
         alloc: Global,
@@ -169,8 +170,8 @@ impl Search {
 }
 
 /// Reads a text until its base direction is known, as `whole_direction` defines it: until a paragraph with a
-/// strong character has ended, or 65,536 characters were read. If the source fails first, returns the
-/// direction of the text read so far. Decodes the bytes as `run` does.
+/// strong character has ended, 65,536 characters were read, or the text ends. If the source fails first,
+/// returns the direction of the text read so far. Decodes the bytes as `run` does.
 ///
 /// Needs time in proportion to the number of bytes, however few each read returns.
 pub fn read_start<R: Source>(

@@ -24,7 +24,7 @@ is_numeral (c ∷ text) = list_all (λ c. nat_lt (digit_value c) 10) (c ∷ text
 abbrev pub number_of : Text → ℕ
 number_of text = digits_value 10 (without_leading_plus text)
 
--- the number from 1 to `most` that a text denotes
+-- the number from 1 to `most` that a text denotes, or `None` for any other text
 abbrev pub number_up_to : ℕ → Text → Option ℕ
 number_up_to most text =
     if is_numeral (without_leading_plus text) && (nat_le (number_of text) most && nat_le 1 (number_of text)) then Some (number_of text) else None
@@ -39,7 +39,7 @@ abbrev pub width_by : Option Text → Option Width
 width_by None = Some width.Auto
 width_by (Some text) = width_named text
 
--- the tab width, or 0 for tabs without a width
+-- the tab width that a value names; 0 stands for tabs without a width
 abbrev pub tabs_named : Text → Option ℕ
 tabs_named text = if bytes_eq text (codes "none") then Some 0 else number_up_to 255 text
 

@@ -27,7 +27,7 @@ prefix_rows rows = if has_prefix rows.line then rows.line else rows.environment
 abbrev pub prefix_options : Rows → Bool × Option Text
 prefix_options rows = (is_given (codes "quotes") (prefix_rows rows), first_of (codes "prefix") (prefix_rows rows))
 
--- the options of the strict command, and the first one that is given
+-- the options of the strict command, and the first of them that is given
 abbrev pub profile_options : List Text
 profile_options = codes "script" ∷ profile_flags
 
@@ -54,13 +54,14 @@ pub record AreSettings (rows : Rows) (settings : Settings) : Type 0 where
   pub strict : settings.strict ≡ is_set (codes "strict") rows
   pub files : map (λ file. file.now) settings.files.items ≡ unwrap_or (all_of (codes "files") rows.line) []
 
--- `clap` refuses the words with this kind of error
+-- `clap` refuses the words with this kind of error, or runs out of memory
 abbrev pub IsRefusal : Bool → List Text → OptionFault → Type 0
 IsRefusal files words (fault.Words error) = IsAmong (kind_of error) (fault_of (program files) words)
 IsRefusal files words fault.NoMemory = Unit {0}
 IsRefusal files words other = ⊥
 
--- The given options include one of the strict command, one whose value has no meaning, or both options for prefixes.
+-- The given options include one of the strict command, one whose value has no meaning, or both options for
+-- prefixes, or memory has run out.
 abbrev pub IsMeaningless : Rows → OptionFault → Type 0
 IsMeaningless rows (fault.Words error) = ⊥
 IsMeaningless rows (fault.Profile name) = profile_option rows ≡ Some name.now

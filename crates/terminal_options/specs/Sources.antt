@@ -1,4 +1,4 @@
--- The rows of parsed options. Only the code uses this definition.
+-- The rows of the options that were parsed from both sources. Only the code uses this definition.
 use Rattle.clap.specs.Words.{found_of, rows_of}
 use Rattle.terminal_options.specs.Given.{Rows}
 use Rattle.terminal_options.specs.declared.given.Given.{Given}

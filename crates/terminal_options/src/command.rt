@@ -8,7 +8,7 @@ use clap::{Arg, ArgAction, Command};
 use command_line::{UNICODE_VERSIONS, VERSION};
 use std::alloc::{AllocError, Global};
 
-/// Returns the command with all options, and with files if `files` is set.
+/// Returns the `clap` command with all options, and with the argument for files if `files` is true.
 pub(crate) fn command<'a>(alloc: Global, files: bool) -> Result<Command<'a>, AllocError>
     ensures { IfOk result (λ command. app_of command ≡ program files) }
 {

@@ -15,7 +15,7 @@ pub(crate) struct Given<'m, 'a> {
     pub line: &'m ArgMatches<'a>,
 }
 
-// Returns the value of an option in one of the two sources.
+// Returns the value of an option in one of the two sources, or `None` if it is not set there.
 pub(crate) fn value_in<'a>(matches: &ArgMatches<'a>, name: &str) -> Option<&'a str>
     ensures { option_map (λ text. text.now) result ≡ first_of name.now (rows_of (found_of matches.now)) }
 {
@@ -30,7 +30,7 @@ pub(crate) fn is_set_in(matches: &ArgMatches<'_>, name: &str) -> bool
 }
 
 impl<'a> Given<'_, 'a> {
-    /// Returns the value of an option.
+    /// Returns the value of an option, or `None` if it is not set in either source.
     pub(crate) fn value(&self, name: &str) -> Option<&'a str>
         ensures { option_map (λ text. text.now) result ≡ value_of name.now (rows_in self.now) }
     {

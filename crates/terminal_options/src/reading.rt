@@ -38,7 +38,7 @@ fn parse<'a>(
     }
 }
 
-// Returns the first option that is set.
+// Returns the first of these options that is set, or `None` if none is.
 fn first_set(given: &Given<'_, '_>, names: &[&'static str]) -> Option<&'static str>
     ensures { option_map (λ name. name.now) result
         ≡ find (λ name. is_set name (rows_in given.now)) (map (λ name. name.now) names.now) }
@@ -51,7 +51,7 @@ fn first_set(given: &Given<'_, '_>, names: &[&'static str]) -> Option<&'static s
     None
 }
 
-// Returns the first of the strict command's options that is set.
+// Returns the first of the strict command's options that is set, or `None` if none is.
 fn profile_option(given: &Given<'_, '_>) -> Option<&'static str>
     ensures { option_map (λ name. name.now) result
         ≡ profile_option (rows_in given.now) }
@@ -83,7 +83,7 @@ fn has_prefix(matches: &ArgMatches<'_>) -> bool
     is_set_in(matches, "quotes") || value_in(matches, "prefix").is_some()
 }
 
-// Returns the prefix, or `None` if both options for prefixes are set.
+// Returns the prefix that `--quotes` and `--prefix` specify, or `None` if both are set.
 fn prefix_by<'a>(quotes: bool, pattern: Option<&'a str>) -> Option<Prefix<'a>>
     ensures some { IfSome result (λ prefix. options_for prefix
         ≡ (quotes, option_map (λ text. text.now) pattern.entry)) }
@@ -97,7 +97,8 @@ fn prefix_by<'a>(quotes: bool, pattern: Option<&'a str>) -> Option<Prefix<'a>>
     }
 }
 
-// Returns the prefix, or `None` if both options for prefixes are set.
+// Returns the prefix, or `None` if both options for prefixes are set. Reads the options of the environment
+// only if the arguments set neither.
 fn prefix_of<'a>(given: &Given<'_, 'a>) -> Option<Prefix<'a>>
     ensures some { IfSome result (λ prefix. options_for prefix ≡ prefix_options (rows_in given.now)) }
     ensures none { result ≡ None → ((prefix_options (rows_in given.now)).0 ≡ true)
@@ -113,8 +114,8 @@ fn prefix_of<'a>(given: &Given<'_, 'a>) -> Option<Prefix<'a>>
 
 /// Returns the settings, given the words of `HORDGULI_OPTIONS` and the arguments after the program's name.
 ///
-/// Fails with `Words` if `clap` refuses either list of words, then with `Profile` if an option of the strict
-/// command is set, and then with the fault of the first value that has no meaning.
+/// Fails with `Words` if `clap` refuses either list of words. Otherwise, fails with `Profile` if an option of
+/// the strict command is set, and then with the fault of the first value that has no meaning.
 pub fn settings<'a>(
     alloc: Global,
     environment: &'a [&'a str],

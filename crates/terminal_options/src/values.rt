@@ -1,4 +1,5 @@
-//! The meaning of options' values.
+//! The meaning of options' values. Each function `.._by` returns the default if there is no value, and `None`
+//! for a value that has no meaning.
 ghost use Rattle.std.specs.Prelude.{◌≡◌, option_map};
 ghost use Rattle.terminal_options.specs.Choices.{direction_by, escapes_by, marks_by, number_up_to};
 ghost use Rattle.terminal_options.specs.Choices.{tabs_by, version_by, width_by};
@@ -7,7 +8,7 @@ use crate::choices::{Direction, Marks, Width};
 use terminal::Escapes;
 use ucd::Version;
 
-// Returns the number from 1 to `most` that a text denotes in decimal.
+// Returns the number from 1 to `most` that a text denotes in decimal, or `None` for any other text.
 fn number_up_to(most: u16, text: &str) -> Option<u16>
     ensures { result ≡ number_up_to most text.now }
 {

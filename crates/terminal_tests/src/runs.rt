@@ -56,7 +56,7 @@ fn is_output(
     Ok(true)
 }
 
-// Does the same as `is_output` for an input that is followed by another input.
+// Does the same as `is_output`, for an input that is not the last one.
 fn is_written_as(
     alloc: Global,
     engine: &mut Engine,

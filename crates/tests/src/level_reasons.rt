@@ -118,7 +118,7 @@ const NO_BRACKET: BracketStep = BracketStep {
     inside: None,
 };
 
-// What N0 does with a bracket of a pair in which a strong type decides.
+// What N0 does with a bracket of a pair whose direction depends on the strong type at `inside`.
 fn paired(case: BracketCase, partner: usize, inside: usize) -> BracketStep {
     BracketStep {
         case: Some(case),
@@ -144,7 +144,7 @@ fn unpaired(case: BracketCase) -> BracketStep {
     }
 }
 
-// What N0 does with a mark: N0 sets the mark's type together with the type of the bracket at an index.
+// What N0 does with a mark that gets its type from the bracket at an index.
 fn mark_of(bracket: usize) -> BracketStep {
     BracketStep {
         case: None,

@@ -1,4 +1,4 @@
-//! Tests worked examples of levels, and that the levels of short lists equal those of the reference
+//! Tests the levels of worked examples, and compares the levels of short lists with the reference
 //! implementation.
 ghost use Rattle.std.specs.Prelude.{◌≡◌, map, IfOk};
 ghost use Rattle.ucd.specs.Properties.{properties_of};
@@ -530,7 +530,7 @@ static LIST_ROWS: [ListRow; 8] = [
     },
 ];
 
-// Returns whether the levels of an example are right if no resolver is reused.
+// Returns whether a new resolver finds the levels of an example.
 fn are_of_row(alloc: Global, row: &ListRow) -> Result<bool, AllocError> {
     if row.classes.len() != row.brackets.len() {
         return Ok(false);

@@ -7,7 +7,7 @@ use std::process::Abort;
 use std::test::Fail;
 use ucd::{BidiClass, Tables};
 
-// The expected values in a list of reasons, one for each character.
+// The expected values of some fields in a list of reasons, one for each character.
 #[derive(Clone, Copy)]
 struct Expected<'a> {
     levels: &'a [u8],
@@ -27,7 +27,7 @@ fn list_of(alloc: Global, tables: &Tables, text: &[char]) -> Result<Vec<LevelRea
     }
 }
 
-// Returns the first character of the sequence that a character is in.
+// Returns the position of the first character of a character's sequence, or `None` if it is in none.
 fn sequence_of(reason: &LevelReason) -> Option<usize> {
     match reason.resolved {
         Some(resolved) => Some(resolved.sequence),

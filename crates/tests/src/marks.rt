@@ -24,7 +24,7 @@ fn marks_of(
     }
 }
 
-// Returns whether the marks are the ones that the annex's symbols denote.
+// Returns whether the marks are those that these symbols stand for in the annex.
 fn are_signs(marks: &[Mark], signs: &str) -> bool {
     let mut all_right = marks.len() == signs.chars().count();
     for (mark, sign) in marks.iter().zip(signs.chars()) {
@@ -49,7 +49,7 @@ fn has_marks(
     Ok(are_signs(&marks, signs))
 }
 
-// Texts and their marks, with and without whole numbers.
+// Texts, and their marks, which are the same with and without whole numbers.
 static ROWS: [(&str, &str); 15] = [
     ("", ""),
     ("a b", "×÷!"),
@@ -300,8 +300,8 @@ static LETTERS: [char; 12] = [
     'a', '\u{5D0}', '\u{627}', '1', '\u{660}', '+', ',', '$', '\u{300}', '(', ')', ' ',
 ];
 
-// Returns whether the marks agree for list number `number` among the lists of `length` characters from
-// `letters`.
+// Returns whether the marks equal those of the reference implementation for list number `number` among the
+// lists of `length` characters from `letters`.
 fn agrees_on(
     tables: &Tables,
     letters: &[char],

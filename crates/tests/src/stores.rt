@@ -122,7 +122,7 @@ fn sums(items: &[Item]) -> (usize, usize)
     (chars, lines)
 }
 
-// The sums of bytes and of code units, up to 2^64−1.
+// Returns the sums of bytes and of code units. A sum above 2^64−1 becomes 2^64−1.
 fn encoded_sums(items: &[Item]) -> (usize, usize)
     ensures bytes { result.0 < 2 ^ 64 - 1 → result.0 ≡ sum_by (λ item. item.bytes) items.now }
     ensures utf16 { result.1 < 2 ^ 64 - 1 → result.1 ≡ sum_by (λ item. item.utf16) items.now }
@@ -225,7 +225,7 @@ fn small_items(alloc: Global, count: usize) -> Result<Vec<Item>, AllocError> {
     Ok(items)
 }
 
-// Returns whether two searches have the same result, apart from the number of visits.
+// Returns whether two searches have the same result, apart from the number of visited items.
 fn is_same(found: Found, other: Found) -> bool {
     Found { visits: 0, ..found } == Found { visits: 0, ..other }
 }

@@ -65,7 +65,7 @@ const EMPTY: ucd::UcdFiles<'_> = ucd::UcdFiles {
     emoji_data: b"",
 };
 
-// Returns why files are refused.
+// Returns the fault for which files are refused, or `None` if they are accepted.
 fn fault_of(alloc: Global, files: &ucd::UcdFiles<'_>) -> Option<ucd::TableFault> {
     let tables: Result<ucd::Tables, ucd::TableFault> = ucd::Tables::read(alloc, files);
     match tables {

@@ -16,9 +16,8 @@ const EMPTY: UcdFiles<'_> = UcdFiles {
     emoji_data: b"",
 };
 
-// A character and its two classes; if it is a bracket, the other bracket of its pair and whether it is the
-// opening bracket; its mirror; whether it is wide, a mark and a future pictograph; and its number for line
-// breaking.
+// A character and its two classes; for a bracket, the other bracket of its pair and whether it is the opening
+// one; its mirror; whether it is wide, a mark or a future pictograph; and its number for line breaking.
 type Row = (
     char,
     Bidi,
@@ -104,8 +103,7 @@ static ROWS: [Row; 16] = [
     ('\u{10FFFF}', Bidi::L, Line::XX, None, None, NONE, 336),
 ];
 
-// Looks up each property of a character with a separate call, and the number of its properties for line
-// breaking.
+// Looks up the properties of a character one by one, and its number for line breaking.
 fn looked_up(tables: &Tables, c: char) -> Row {
     let pair = match tables.bracket(c) {
         Some(bracket) => Some((bracket.pair, bracket.opens)),

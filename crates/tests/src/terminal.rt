@@ -16,8 +16,8 @@ fn push_characters(text: &str, out: &mut Vec<char>) -> Result<(), AllocError> {
     Ok(())
 }
 
-// Returns the style of a character and the index of the next run, given the style of the character before it
-// and the index of the run that comes next.
+// Returns the style of character `k`, and the index of the next run after it. `before` is the style of the
+// character before it, and `next` the index of the next run from there.
 fn style_at<'a>(
     text: &'a StyledText,
     k: usize,
@@ -49,7 +49,7 @@ fn push_line(text: &StyledText, out: &mut Vec<char>) -> Result<(), AllocError> {
     push_between(&before, &plain, out)
 }
 
-// Returns the characters that are written for what a text shows.
+// Returns the output for the characters and styles that a text shows.
 fn rewritten(alloc: Global, text: &[char]) -> Result<Vec<char>, AllocError> {
     let mut scanner = Scanner::new(alloc);
     scanner.push_text(text)?;
@@ -240,7 +240,7 @@ fn overstrikes_are_bold_or_underlined(rt: HostRuntime) -> Result<(), Fail> {
     Ok(())
 }
 
-// Returns a text of ESC ], n letters and BEL, between a and b.
+// Returns a text with a string of n letters, from ESC ] to BEL, between `a` and `b`.
 fn with_string(alloc: Global, n: usize) -> Result<Vec<char>, AllocError> {
     let mut text = Vec::new(alloc);
     push_characters("a\u{1b}]", &mut text)?;

@@ -55,7 +55,7 @@ module _ (is_cut : ℕ → ℕ → Bool) where
   IsFaultAhead text bad place fault = ⊥
 
 -- The lines of the first paragraphs of a text were appended to a page, and the characters of these paragraphs
--- were counted once. The rest has no paragraph boundary.
+-- were counted once. `rest`, the remaining text, has no paragraph boundary.
 pub record Pushed (rules : Rules) (width : ℕ) (print : Print) (text rest before after : List ℕ) (engine_old engine_new : Engine) : Type 0 where
   pub pars : List (List ℕ)
   pub front : IsFront (cut_by rules) pars text rest
@@ -89,7 +89,7 @@ pub record Gathers (rules : Rules) (width : ℕ) (print : Print) (bytes : List �
   pub written : new.written ≡ old.written
   pub room : vec_len new.chunk ≡ vec_len old.chunk
 
--- A fault was found before the first paragraph ends, and nothing has changed.
+-- A fault was found before the end of the first paragraph, and nothing has changed.
 pub record FindsFault (rules : Rules) (bytes : List ℕ) (old new : Held) (engine_old engine_new : Engine) (fault : Option RunFault) : Type 0 where
   pub wrong : RunFault
   pub ahead : IsFaultAhead (cut_by rules) (old.text.items ++ front_of bytes) (is_bad bytes) (old.decoded + utf8_valid_len bytes) wrong
@@ -128,7 +128,7 @@ pub record StopsAfter (rules : Rules) (print : Print) (held : Held) (reader_old 
   pub left : IsOpen (cut_by rules) rest
   pub counts : Prints (length (concat pars)) print engine_old engine_new
 
--- the output at the end of a text, for each result of the run
+-- what is written at the end of a text, for each result of the run
 abbrev pub Finishes : Rules → ℕ → Print → Held → Device → Device → Result (Unit {0}) RunFault → Type 0
 Finishes rules width print held old new (Ok done) = (held.waiting ≡ 0) × Wrote (last_lines rules width print held) old new
 Finishes rules width print held old new (Err (f.NotUtf8 n)) = (0 < held.waiting) × (n ≡ held.decoded) × (new ≡ old)
@@ -137,9 +137,9 @@ Finishes rules width print held old new (Err (f.Write n)) =
 Finishes rules width print held old new (Err f.Memory) = (held.waiting ≡ 0) × (0 < length held.text.items) × (prints_some print ≡ true) × (new ≡ old)
 Finishes rules width print held old new (Err fault) = ⊥
 
--- What a run did between two states of its source and sink. The run decoded the bytes that it read, except for the last
--- ones, `waiting`, and wrote the lines of the paragraphs `sent`. The run holds the lines of `gathered`, and `text`, the
--- characters after the last paragraph boundary.
+-- What a run did between two states of its source and sink. The run decoded the bytes that it read, except
+-- for the last ones, `waiting`, and wrote the lines of the paragraphs `sent`. The run still holds the lines
+-- of the paragraphs `gathered`, and `text`, the characters after the last paragraph boundary.
 pub record IsAt (rules : Rules) (width : ℕ) (print : Print) (reader_old reader_new writer_old writer_new : Device) (waiting text lines : List ℕ) : Type 0 where
   pub decoded : List ℕ
   pub sent : List (List ℕ)
@@ -176,7 +176,7 @@ pub record Ends (rules : Rules) (width : ℕ) (print : Print) (reader_old writer
   pub wants : IsErrOf result f.Memory → WantsMemory rules width print reader_old reader_new writer_old writer_new engine_old engine_new
   pub stopped : (n : ℕ) → IsErrOf result (f.Write n) → HasStopped rules width print reader_old reader_new writer_old writer_new engine_old engine_new n
 
--- a step continues the run or ends it
+-- what holds after a step: the run continues after `Ok(true)`, and has ended after any other result
 abbrev pub Steps : Rules → ℕ → Print → Device → Device → Engine → Device → Device → Engine → Held → Result Bool RunFault → Type 0
 Steps rules width print reader_old writer_old engine_old reader_new writer_new engine_new held (Ok true) =
     Stands rules width print reader_old writer_old engine_old reader_new writer_new engine_new held

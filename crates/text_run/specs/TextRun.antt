@@ -24,8 +24,8 @@ pub data Ending : Type 0 where
   AtEnd : Ending
   AtFailure : Ending
 
--- The fault of an input: the input is not UTF-8, or a read failed. At the end of the input, an incomplete
--- UTF-8 sequence is reported as `NotUtf8` too.
+-- The fault of an input, if it has one: the input is not UTF-8, or a read failed. At the end of the input, an
+-- incomplete UTF-8 sequence is reported as `NotUtf8` too.
 abbrev pub input_fault : Ending → List ℕ → Option RunFault
 input_fault AtEnd bytes =
     if utf8_valid_len bytes == length bytes then None else Some (fault.NotUtf8 (utf8_valid_len bytes))
@@ -38,13 +38,13 @@ is_within paragraph = nat_le (length paragraph) PARAGRAPH_LIMIT
 abbrev pub are_within : List (List ℕ) → Bool
 are_within pars = list_all is_within pars
 
--- The paragraphs that are written. If a paragraph is too long, the paragraphs before the first such paragraph
--- are written. Otherwise all paragraphs are written, or all but the last if the input has a fault.
+-- The paragraphs that are written. If any paragraph is too long, only the paragraphs before the first such
+-- one are written. Otherwise all paragraphs are written, or all but the last if the input has a fault.
 abbrev pub written_of : List (List ℕ) → Bool → List (List ℕ)
 written_of pars is_whole =
     if are_within pars then (if is_whole then pars else take (length pars - 1) pars) else take_while is_within pars
 
--- the fault that ends the run
+-- the fault that ends the run, if there is one
 abbrev pub ending_of : List (List ℕ) → Option RunFault → Option RunFault
 ending_of pars wrong = if are_within pars then wrong else Some fault.ParagraphTooLong
 
@@ -59,8 +59,8 @@ Gave old new AtEnd bytes = IfSome old.bytes (λ all. all ≡ bytes) × (new.fail
 Gave old new AtFailure bytes = Consumes old.bytes new.bytes bytes × (new.passed ≡ old.passed + length bytes) × FailedLast old new
 
 -- How a run ended. Without a fault, or with a fault of the input, the page of the paragraphs `written` was
--- written to the sink. After a failed write, a prefix of that page was written, and the fault has the length
--- of the prefix. After a failed allocation, the page of the first k of these paragraphs was written.
+-- written to the sink. After a failed write, a prefix of that page was written, and the fault holds the
+-- prefix's length. After a failed allocation, the page of the first k of these paragraphs was written.
 abbrev pub EndsWith : (List (List ℕ) → List ℕ) → List (List ℕ) → Option RunFault → Device → Device → Option RunFault → Type 0
 EndsWith page_of written wrong old new (Some (fault.Write n)) = StoppedAt n (page_of written) old new
 EndsWith page_of written wrong old new (Some fault.Memory) = (k : ℕ) × Wrote (page_of (take k written)) old new
@@ -87,8 +87,8 @@ HasPrinted (Some (fault.Write m)) n print old new = ⊤
 HasPrinted (Some fault.Memory) n print old new = ⊤
 HasPrinted (Some wrong) n print old new = Prints n print old new
 
--- The run of a text. The paragraphs of the valid UTF-8 prefix of the bytes read are written, up to the first
--- fault.
+-- What a run of a text does: it writes the paragraphs of the valid UTF-8 prefix of the bytes read, up to the
+-- first fault.
 abbrev pub IsTextRun : Rules → ℕ → Print → Device → Device → Device → Device → Engine → Engine → Result (Unit {0}) RunFault → Type 0
 IsTextRun rules width print reader_old reader_new writer_old writer_new engine_old engine_new result =
     (ending : Ending) × (bytes : List ℕ) × Gave reader_old reader_new ending bytes
@@ -110,7 +110,7 @@ HasRead old new bytes = Consumes old.bytes new.bytes bytes × (new.passed ≡ ol
 
 -- A run that ended with `Memory`. No paragraph of the bytes read is too long. Unless nothing was read, the
 -- lines of at least one paragraph are still to be written. If invalid UTF-8 follows, that paragraph ends
--- before it. If nothing is printed, that paragraph is still to be counted.
+-- before the invalid bytes. If nothing is printed, that paragraph is still to be counted.
 abbrev pub WantsMemory : Rules → ℕ → Print → Device → Device → Device → Device → Engine → Engine → Type 0
 WantsMemory rules width print reader_old reader_new writer_old writer_new engine_old engine_new =
     (bytes : List ℕ) × HasRead reader_old reader_new bytes

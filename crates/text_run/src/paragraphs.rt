@@ -20,7 +20,7 @@ use lines::{Engine, PARAGRAPH_LIMIT, Print};
 use std::alloc::{AllocError, Global};
 use stream::{Page, push_characters};
 
-// How the characters after a text affect its first paragraph.
+// What the characters after a text show about its first paragraph.
 #[derive(Clone, Copy, Debug, PartialEq, Eq)]
 enum Ahead {
     // The paragraph is too long.
@@ -31,12 +31,11 @@ enum Ahead {
     Open,
 }
 
-/// Returns the fault in the first paragraph of `text`, if `more`, the characters that follow, already shows
-/// the fault. Allocates nothing.
+/// Returns the fault in the first paragraph of `text` followed by `more`, or `None` if these characters show
+/// no fault. Allocates nothing.
 ///
-/// `text` must have no paragraph boundary and must not be too long. `more` must not have more characters than
-/// a paragraph may have. `is_bad` says whether the bytes after `more`, at `place` in the input, are invalid
-/// UTF-8.
+/// `text` must have no paragraph boundary. `text` and `more` must each have at most `PARAGRAPH_LIMIT`
+/// characters. `is_bad` says whether the bytes after `more`, at `place` in the input, are invalid UTF-8.
 ///
 /// - `ParagraphTooLong`: with the characters of `more`, the first paragraph is too long.
 /// - `NotUtf8(place)`: the paragraph does not end within `more`, and `is_bad` is true.
@@ -69,8 +68,8 @@ pub fn fault_ahead(
     }
 }
 
-/// Returns `NotUtf8(place)` if `is_bad` is true, which means that the bytes at `place` in the input are not
-/// UTF-8.
+/// Returns `NotUtf8(place)` if `is_bad` says that the bytes at `place` in the input are not UTF-8, and `None`
+/// otherwise.
 pub fn bad_at(is_bad: bool, place: u64) -> Option<RunFault>
     ensures { result ≡ (if is_bad then Some (RunFault.NotUtf8 place) else None) }
 {
@@ -81,8 +80,8 @@ pub fn bad_at(is_bad: bool, place: u64) -> Option<RunFault>
     }
 }
 
-// Returns how `more` affects a text that has no paragraph boundary and is not too long. `more` must not have
-// more characters than a paragraph may have.
+// Returns what `more` shows about the paragraph of `text`, which has no paragraph boundary. `text` and `more`
+// must each have at most `PARAGRAPH_LIMIT` characters.
 fn look_ahead(engine: &Engine, text: &[char], more: &str) -> Ahead
     requires uncut { SplitsAt (cut_by (rules_of engine.now)) text.now None }
     requires short { length text.now ≤ PARAGRAPH_LIMIT }

@@ -39,7 +39,7 @@ struct Held {
     decoded: u64,
     // The characters after the last paragraph boundary.
     text: Vec<char>,
-    // The lines not written yet, and the number of bytes written.
+    // The lines not yet written, and the number of bytes already written.
     page: Page,
     written: u64,
 }
@@ -182,7 +182,7 @@ impl Held {
         }
     }
 
-    // Moves the bytes in `start..end`, which are an incomplete character, to the front of the chunk.
+    // Moves the bytes in `start..end`, which have not been decoded, to the front of the chunk.
     fn keep_bytes(&mut self, start: usize, end: usize)
         requires within { (start ≤ end) × (end ≤ vec_len self.old.chunk) }
         requires counted { self.old.decoded + start ≤ 2 ^ 64 - 1 }
@@ -236,8 +236,8 @@ fn finish<W: Sink>(
     held.write(writer)
 }
 
-// Reads a chunk, and writes the lines of the paragraphs whose end is then known. Returns whether the text
-// continues.
+// Reads a chunk, and writes the lines of the paragraphs whose end is then known. Returns `false` if the
+// source has no more bytes.
 fn step<R: Source, W: Sink>(
     alloc: Global,
     reader: &mut R,
@@ -305,8 +305,8 @@ fn step<R: Source, W: Sink>(
 
 /// Reads a text and writes the lines of its paragraphs. `width` is in columns and must not be 0.
 ///
-/// A paragraph is written as soon as its end is known, before more is read. Only the last paragraph and one
-/// chunk of the input are kept in memory. Never fails with `BadLine` or `TextTooLong`.
+/// A paragraph is written as soon as its end is known, before more is read. Of the input, only the last
+/// paragraph and one chunk are kept in memory. Never fails with `BadLine` or `TextTooLong`.
 pub fn run_text<R: Source, W: Sink>(
     alloc: Global,
     reader: &mut R,

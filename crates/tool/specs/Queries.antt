@@ -1,4 +1,4 @@
--- The reply to a query about a text at a width.
+-- The replies to queries about a text that is laid out at a width.
 use Rattle.std.specs.Prelude.{not, ◌≡◌, ℕ, ◌+◌, ◌-◌, ◌<◌, nat_lt, ◌&&◌, Bool, false, true, List, [], ◌∷◌, ◌++◌, length, codes, slice_get, slice_index, Option, Some, None, option_map, if◌then◌else◌}
 use Rattle.std.specs.Fmt.{decimal}
 use Rattle.std.specs.List.{flat_map, slice_range}
@@ -49,7 +49,7 @@ listed numbers = flat_map (λ n. codes " " ++ decimal n) numbers
 abbrev pub told : List ℕ → List ℕ
 told numbers = codes "=" ++ listed numbers ++ codes "\n"
 
--- the reply to a query that is out of range
+-- the reply to a query for a position, a line or a range past the end
 abbrev pub out_of_range : List ℕ
 out_of_range = codes "! range\n"
 
@@ -74,7 +74,7 @@ side_text After = codes "after"
 abbrev pub edge_text : Edge → List ℕ
 edge_text edge = codes " " ++ decimal edge.pos ++ codes " " ++ side_text edge.side
 
--- the replies that consist of one edge and of two edges
+-- the reply that consists of one edge, and the reply that consists of two edges
 abbrev pub told_edge : Edge → List ℕ
 told_edge edge = codes "=" ++ edge_text edge ++ codes "\n"
 
@@ -85,7 +85,7 @@ told_edges first last = codes "=" ++ edge_text first ++ edge_text last ++ codes 
 abbrev pub told_end : List ℕ
 told_end = codes "= end\n"
 
--- the edge and the direction of a query
+-- the edge and the direction that the arguments of a query denote
 abbrev pub edge_of : ℕ → Bool → Edge
 edge_of pos is_after = record { pos = pos; side = if is_after then After else Before }
 
@@ -113,7 +113,7 @@ is_odd_at line None = false
 abbrev pub leftmost : Visual → Hit → Hit
 leftmost line hit = record { pos = hit.pos; trailing = is_odd_at line (covering line 0) }
 
--- the columns of a span, moved to the right by `left`; the start, the length and the level of a run
+-- the numbers for a span: its columns, moved to the right by `left`; the numbers for a run
 abbrev pub span_numbers : ℕ → Span → List ℕ
 span_numbers left span = (left + span.left) ∷ (left + span.right) ∷ []
 
@@ -130,7 +130,7 @@ module _ (print : Print) (width : ℕ) (kept : List Layout) where
   abbrev pub caret_text : Rules → ℕ → List ℕ
   caret_text rules pos = told_of (option_map caret_numbers (caret_at rules kept pos))
 
-  -- the character at a column of the screen, and the reply to `hit`
+  -- the hit at a column of the screen, and the reply to `hit`: a position, and 1 if it is trailing, else 0
   abbrev pub screen_hit_on : ℕ → ℕ → Option Visual → Option Hit
   screen_hit_on n column (Some line) =
       if nat_lt column (screen_left print width line) then option_map (leftmost line) (hit_at kept n 0) else hit_at kept n (column - screen_left print width line)
@@ -172,7 +172,7 @@ module _ (print : Print) (width : ℕ) (kept : List Layout) where
       if nat_lt (length (lines_in kept)) (first + count) then out_of_range
       else told (count ∷ []) ++ flat_map (line_bytes width print) (slice_range (lines_in kept) first (first + count))
 
--- the reply to `why`
+-- the reply to `why`: the reasons for a character's level and break mark
 abbrev pub why_by : Option CharReasons → List ℕ
 why_by (Some reasons) = reasons_text reasons
 why_by None = out_of_range
@@ -187,7 +187,7 @@ module _ (kept : List Layout) where
   abbrev pub word_text : ℕ → List ℕ
   word_text pos = told_of (option_map (λ word. word.start ∷ word.end ∷ (if word.has_letter then 1 else 0) ∷ []) (word_at kept pos))
 
-  -- the reply to `step`
+  -- the reply to `step`: the next edge, or `end` if the edge is at the end of the line in that direction
   abbrev pub step_by : Option Caret → Option Edge → List ℕ
   step_by None next = out_of_range
   step_by (Some caret) (Some next) = told_edge next
@@ -196,7 +196,7 @@ module _ (kept : List Layout) where
   abbrev pub step_text : Rules → Edge → Direction → List ℕ
   step_text rules edge direction = step_by (edge_caret_at rules kept edge) (step_at rules kept edge direction)
 
-  -- the reply to `ends`
+  -- the reply to `ends`: the first and the last edge of a line
   abbrev pub ends_by : Option LineEdges → List ℕ
   ends_by (Some edges) = told_edges edges.first edges.last
   ends_by None = out_of_range
@@ -204,7 +204,7 @@ module _ (kept : List Layout) where
   abbrev pub ends_text : Rules → ℕ → List ℕ
   ends_text rules n = ends_by (line_edges rules kept n)
 
-  -- the reply to `runs`, in which positions count from the start of the line
+  -- the reply to `runs`: the level runs of a line, with positions counted from the start of the line
   abbrev pub runs_by : Option Visual → List ℕ
   runs_by (Some line) = told_each run_numbers (runs_of line.levels)
   runs_by None = out_of_range
@@ -223,7 +223,8 @@ module _ (kept : List Layout) where
   abbrev pub size_text : List ℕ
   size_text = told (length (text_of kept) ∷ length (lines_in kept) ∷ length kept ∷ [])
 
-  -- the replies to `byte` and `utf16`, and to `frombyte` and `fromutf16`
+  -- the replies to `byte` and `utf16` (an offset), `frombyte` and `fromutf16` (a position, and units after
+  -- it)
   abbrev pub offset_text : Encoding → ℕ → List ℕ
   offset_text encoding pos = told_of (option_map (λ offset. offset ∷ []) (offset_of encoding (text_of kept) pos))
 

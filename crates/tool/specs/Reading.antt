@@ -48,7 +48,7 @@ abbrev pub lacks_memory : Result Damage EditFault → Bool
 lacks_memory (Err NoMemory) = true
 lacks_memory edit = false
 
--- the reply to an edit
+-- the reply to an edit: which lines were replaced, or why the edit was refused
 abbrev pub answer_text : Result Damage EditFault → List ℕ
 answer_text (Ok damage) = damage_text damage.first_line damage.old_lines damage.new_lines
 answer_text (Err reason) = refusal_text reason
@@ -72,7 +72,7 @@ ExecutesNot rules print command written held_old held_new old new f.Memory =
     (command_refusal rules held_old command ≡ None) × TakesMemory rules held_old command × (held_new ≡ held_old) × (new ≡ old)
 ExecutesNot rules print command written held_old held_new old new fault = ⊥
 
--- a line was executed
+-- a line was executed, its reply was written, and the unfinished line is empty again
 pub record ExecutesLine (rules : Rules) (options : ScriptOptions) (line : List ℕ) (held_old held_new : Held) (old new : Reading) (writer_old writer_new : Device) : Type 0 where
   pub good : is_good options.queries line ≡ true
   pub held : held_new ≡ after_line rules held_old (command_of_line options.queries line)
@@ -116,8 +116,7 @@ pub record Grows (bytes : List ℕ) (old new : Reading) : Type 0 where
   pub lines : new.lines ≡ old.lines
   pub written : new.written ≡ old.written
 
--- bytes were not appended to the unfinished line, because it would be too long or because an allocation
--- failed
+-- bytes were not appended to the unfinished line: the line would be too long, or an allocation failed
 abbrev pub GrowsNot : List ℕ → Reading → Reading → RunFault → Type 0
 GrowsNot bytes old new (f.BadLine n) = (LINE_LIMIT < length (old.line.items ++ bytes)) × (n ≡ old.lines + 1)
 GrowsNot bytes old new f.Memory =
@@ -203,13 +202,13 @@ pub record WantsIn (rules : Rules) (options : ScriptOptions) (start : SessionSta
   pub lines : reading.lines ≡ before.lines
   pub fails : FailsIn rules options waiting state_before state before reading writer_before writer f.Memory
 
--- the state of a run whose counters do not overflow
+-- whether a run can read the waiting bytes: it is in a state as in `IsAt`, and its counters do not overflow
 abbrev pub CanFeed : Rules → ScriptOptions → SessionState → Reading → Device → List ℕ → Type 0
 CanFeed rules options now reading writer_new waiting =
     (start : SessionState) × (reader_old : Device) × (writer_old : Device) × (reader_new : Device)
     × IsAt rules options start reader_old reader_new writer_old writer_new now reading waiting × (reader_new.passed ≤ greatest)
 
--- a step continues the run or ends it
+-- after a step, the run continues or has ended
 abbrev pub Steps : Rules → ScriptOptions → SessionState → Device → Device → Device → Device → SessionState → Reading → Result Bool RunFault → Type 0
 Steps rules options start reader_old writer_old reader_new writer_new now reading (Ok true) =
     IsAt rules options start reader_old reader_new writer_old writer_new now reading []
@@ -218,7 +217,7 @@ Steps rules options start reader_old writer_old reader_new writer_new now readin
 Steps rules options start reader_old writer_old reader_new writer_new now reading (Err fault) =
     IsScriptRun rules options start now reader_old reader_new writer_old writer_new (Err fault)
 
--- the whole chunk was read, or the run ends within it
+-- the whole chunk was read, or the run ended within it
 abbrev pub Feeds : Rules → ScriptOptions → SessionState → Device → Device → Device → Device → SessionState → Reading → Result (Unit {0}) RunFault → Type 0
 Feeds rules options start reader_old writer_old reader_new writer_new now reading (Ok done) =
     IsAt rules options start reader_old reader_new writer_old writer_new now reading []

@@ -29,7 +29,7 @@ abbrev pub position_text : ℕ → Option ℕ → List ℕ
 position_text start (Some k) = decimal (min (start + k) (2 ^ 64 - 1))
 position_text start None = codes "none"
 
--- a bidi class and a line breaking class
+-- the name of a bidi class, and the name of a line breaking class, or `none` if there is no class
 abbrev pub bidi_text : Option BidiClass → List ℕ
 bidi_text (Some class) = bidi.name_of class
 bidi_text None = codes "none"
@@ -38,7 +38,7 @@ abbrev pub line_text : Option LineClass → List ℕ
 line_text (Some class) = line.name_of class
 line_text None = codes "none"
 
--- which case of N0 applies to a bracket, or why it is unpaired
+-- which case of N0 applies to a bracket, or why it is unpaired; `none` if the character is not a bracket
 abbrev pub case_text : Option BracketCase → List ℕ
 case_text (Some B) = codes "B"
 case_text (Some C1) = codes "C1"
@@ -49,7 +49,7 @@ case_text (Some NoMatch) = codes "no_match"
 case_text (Some PastLimit) = codes "past_limit"
 case_text None = codes "none"
 
--- the rule that decides the type of a neutral
+-- the rule that decides the type of a neutral, or `none` if the type is not neutral
 abbrev pub neutral_text : Option NeutralRule → List ℕ
 neutral_text (Some N1) = codes "N1"
 neutral_text (Some N2) = codes "N2"
@@ -62,7 +62,7 @@ mark_text Must = codes "must"
 
 -- ---- the level of a character that X9 keeps; `start` is where the paragraph starts
 
--- the class, and the types after X8, each of W1 to W7, N0, and N2
+-- the class of the character, and its type after each of X8, W1 to W7, N0, and N2
 abbrev pub weak_text : SequenceReason → List ℕ
 weak_text found =
     pair (codes "W1") (bidi.name_of found.step.w1) ++ pair (codes "W2") (bidi.name_of found.step.w2)

@@ -21,12 +21,13 @@ Answered rules options held lines wrong k old new (Some (fault.Write n)) =
 Answered rules options held lines wrong k old new (Some fault.Memory) = Wrote (answers rules options held (take k lines)) old new
 Answered rules options held lines wrong k old new stop = (stop ≡ wrong) × (k ≡ length lines) × Wrote (answers rules options held lines) old new
 
--- the executed lines: those that were replied to, and the line whose reply was not written completely
+-- the executed lines: those that were replied to and, after a failed write, the one whose reply is incomplete
 abbrev pub executed_lines : List (List ℕ) → ℕ → Option RunFault → List (List ℕ)
 executed_lines lines k (Some (fault.Write n)) = take (k + 1) lines
 executed_lines lines k stop = take k lines
 
--- an allocation failed, either before anything was read, or after bytes were read beyond the lines that were replied to
+-- if an allocation failed, either nothing had been read, or bytes had been read beyond the lines that were
+-- replied to
 abbrev pub WantsMore : List (List ℕ) → Device → Device → Option RunFault → Type 0
 WantsMore done old new (Some fault.Memory) =
     ((length done ≡ 0) × (new.passed ≡ old.passed)) ⊎ (old.passed + length (with_ends done) < new.passed)
@@ -44,8 +45,8 @@ pub record EndsAfter (rules : Rules) (options : ScriptOptions) (old new : Sessio
   pub wants : WantsMore (take k lines) reader_old reader_new stop
   pub works : LinesWork rules options.queries (held_at old) (take (k + 1) lines) old.engine new.engine
 
--- The run of a script in a session. The lines that were read are executed and replied to in order, up to the
--- first line that is not valid.
+-- The result of running a script in a session. The lines that were read are executed and replied to in order,
+-- up to the first line that is not valid.
 abbrev pub IsScriptRun : Rules → ScriptOptions → SessionState → SessionState → Device → Device → Device → Device → Result (Unit {0}) RunFault → Type 0
 IsScriptRun rules options old new reader_old reader_new writer_old writer_new result =
     (ending : Ending) × (bytes : List ℕ) × Gave reader_old reader_new ending bytes

@@ -30,7 +30,7 @@ command_refusal rules held (SetWidth width) = if nat_lt 65535 width then Some re
 command_refusal rules held Show = None
 command_refusal rules held (Ask query) = None
 
--- the text, the width and the advances after a command
+-- the text, the width and the advances after a command that is not refused
 abbrev pub executed : Held → Command → Held
 executed held (Insert pos inserted) = edited held (insertion pos inserted)
 executed held (Delete pos count) = edited held (deletion pos count)

@@ -30,7 +30,7 @@ module _ (rules : Rules) where
   filled_by held Show = 0
   filled_by held (Ask query) = 0
 
-  -- the work of any command, of a line, and of several lines in order
+  -- upper bounds for any command, for a line, and for several lines that are executed in order
   abbrev pub work_of : (Held → Command → ℕ) → Held → Command → ℕ
   work_of work held command = if is_none (command_refusal rules held command) then work held command else 0
 

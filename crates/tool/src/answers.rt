@@ -22,7 +22,7 @@ use text_run::RunFault;
 /// The maximum length of a reply in bytes: three numbers of 20 digits each, and 5 other bytes.
 pub const ANSWER_ROOM: usize = 65;
 
-/// The bytes of a reply.
+/// A reply, as bytes in an array of fixed capacity.
 pub type Answer = ArrayVec<u8, ANSWER_ROOM>;
 
 /// Returns the reply to an edit: which lines were replaced and by how many, or why the edit was refused.
@@ -96,7 +96,7 @@ pub fn told_edges(first: Edge, last: Edge) -> Answer
     answer
 }
 
-/// Returns the reply to a step from an end of a line.
+/// Returns the reply to a step that leads nowhere because the edge is at the end of the line.
 pub fn told_end() -> Answer
     ensures { result.items ≡ told_end }
 {

@@ -2,7 +2,7 @@
 //!
 //! `settings` reads the arguments, and `run_text` prints a text. `open_text` opens a session on the bytes of
 //! a text, and `run_script` executes a script in it. `run_script_in` does the same in a borrowed session, and
-//! its `ScriptOptions` say whether lines may be queries. The program calls it like this:
+//! its `ScriptOptions` say whether lines may be queries. The program calls `run_script_in` like this:
 //!
 //! ```rust
 //! let mut session = session;

@@ -12,9 +12,9 @@ use device::Sink;
 use lines::VisualLine;
 use text_run::RunFault;
 
-/// Writes the columns of each span of a range, counted from the left edge of the screen, which is `left`
-/// columns to the left of the line. Positions count from the start of the line. `written` is the number of
-/// bytes already written.
+/// Writes the columns of each span of a range, counted from the left edge of the screen. The shown part of
+/// the line starts at column `left`. The positions of the range are counted from the start of the line.
+/// `written` is the number of bytes already written.
 pub fn write_spans<W: Sink>(
     writer: &mut W,
     written: u64,

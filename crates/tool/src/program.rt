@@ -12,7 +12,7 @@ use ucd::{ImageFault, TableFault};
 pub enum ProgramFault {
     #[error("{0}")]
     Line(LineFault),
-    /// The table file with this name cannot be read.
+    /// A table file cannot be read. The field is its name.
     #[error("fribidi: cannot read {0}")]
     TableFile(&'static str),
     #[error("fribidi: {0}")]
@@ -27,7 +27,7 @@ pub enum ProgramFault {
 impl ProgramFault {
     ghost use Rattle.tool.specs.Program.{status_of};
 
-    /// Returns the exit status: the fault's status if the arguments were refused, and otherwise 1.
+    /// Returns the exit status: for a `LineFault`, its own status, and otherwise 1.
     pub fn status(&self) -> u8
         ensures { result ≡ status_of self.now }
     {

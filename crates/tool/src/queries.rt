@@ -1,4 +1,4 @@
-//! The queries that a script makes about the current text, and the replies to them.
+//! Replies to the queries that a script makes about the current text.
 ghost use Rattle.std.specs.Prelude.{◌≡◌, false, ◌^◌, ◌-◌, ◌<◌, ◌≤◌, IfOk, IfErr, OnErr, length, slice_get};
 ghost use Rattle.std.specs.Prelude.{option_map, slice_index, true, IfSome};
 ghost use Rattle.lines.specs.Engine.{rules_of};
@@ -53,7 +53,7 @@ fn empty_left(level: u8, width: u32, print: &Print) -> usize
     }
 }
 
-// Returns the reply that consists of a caret.
+// Returns the reply that consists of a caret's line, screen column and level.
 fn told_caret<S: ParagraphStore<Kept>>(session: &Session<S>, print: &Print, caret: Caret) -> Answer
     requires { caret.column < 2 ^ 64 - 2 ^ 32 }
     ensures { result.items ≡ told (caret_numbers print.now session.now.width session.now.kept caret) }
@@ -75,7 +75,7 @@ fn caret_answer<S: ParagraphStore<Kept>>(session: &Session<S>, print: &Print, po
     }
 }
 
-// Returns whether the character at a visual position of a line has an odd level.
+// Returns whether the character at a visual position of a line has an odd level, or false without a position.
 fn is_odd_at(line: &VisualLine<'_>, place: Option<usize>) -> bool
     ensures { result ≡ is_odd_at line.now place }
 {
@@ -97,7 +97,7 @@ fn is_odd_level(line: &VisualLine<'_>, k: usize) -> bool
     }
 }
 
-// Returns the character at a screen column of a line.
+// Returns the hit at a screen column of line `n`, or `None` past the last line.
 fn screen_hit<S: ParagraphStore<Kept>>(
     session: &Session<S>,
     print: &Print,

@@ -159,7 +159,7 @@ fn push_mark(line: &mut Vec<u8>, mark: Mark) -> Result<(), AllocError>
     push_pair(line, "mark", mark_text(mark))
 }
 
-// Appends the types after W1 to W7.
+// Appends the type after each of W1 to W7.
 fn push_weak(line: &mut Vec<u8>, found: &SequenceReason) -> Result<(), AllocError>
     ensures { OnOk result (line.new.items ≡ line.old.items ++ weak_text found.now) }
 {
@@ -172,7 +172,7 @@ fn push_weak(line: &mut Vec<u8>, found: &SequenceReason) -> Result<(), AllocErro
     push_class(line, "W7", found.step.w7)
 }
 
-// Appends the class of a character that X9 keeps, and its types after each rule.
+// Appends the class of a character that X9 keeps, and its type after each rule.
 fn push_types(
     line: &mut Vec<u8>,
     reason: &LevelReason,
@@ -206,7 +206,7 @@ fn push_positions(
     push_position(line, "right", start, found.step.neutral.right)
 }
 
-// Appends the override and the levels.
+// Appends the override class, the embedding level and the level.
 fn push_explicit(line: &mut Vec<u8>, reason: &LevelReason) -> Result<(), AllocError>
     ensures { OnOk result (line.new.items ≡ line.old.items ++ explicit_text reason.now) }
 {
@@ -216,7 +216,7 @@ fn push_explicit(line: &mut Vec<u8>, reason: &LevelReason) -> Result<(), AllocEr
     Ok(())
 }
 
-// Appends the ends of the sequence, and which cases of N0 to N2 apply.
+// Appends the sequence's sos and eos, the case of N0, and which of N1 and N2 applies.
 fn push_resolved(line: &mut Vec<u8>, found: &SequenceReason) -> Result<(), AllocError>
     ensures { OnOk result (line.new.items ≡ line.old.items ++ resolved_text found.now) }
 {

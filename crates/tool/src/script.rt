@@ -37,7 +37,7 @@ use text_run::RunFault;
 /// The maximum length of a line in bytes, excluding the line end.
 pub const LINE_LIMIT: usize = 1_048_576;
 
-// The documents state this limit as a number, and contracts use the constant.
+// The documentation states this limit as a number, and contracts use the constant.
 const _: () = prove!(LINE_LIMIT == 1_048_576);
 
 /// Options for running a script.
@@ -51,12 +51,12 @@ pub struct ScriptOptions {
 
 /// What a run keeps between two reads.
 struct Reading {
-    // The bytes after the last line end.
+    // The unfinished line: the bytes after the last line end.
     line: Vec<u8>,
     // The number of lines executed, and the number of bytes written.
     lines: u64,
     written: u64,
-    // The characters of a line, and the text of an insert.
+    // Buffers for the characters of a line, and for the text that it inserts.
     text: Vec<char>,
     inserted: String,
 }
@@ -73,7 +73,7 @@ impl Drop for Reading {
     }
 }
 
-// Sets the width of a session. Fails with `WidthOutOfRange` if the width has more than 16 bits.
+// Sets the width of a session. Fails with `WidthOutOfRange` if the width is 0 or more than 65,535.
 fn set_width<S: ParagraphStore<Kept>>(
     session: &mut Session<S>,
     width: usize,
@@ -250,7 +250,7 @@ fn read_line(
     read_command(queries, text, inserted)
 }
 
-// Executes the line in `reading`, and writes its reply.
+// Executes the line that `reading` holds, and writes the reply.
 fn execute_line<W: Sink, S: ParagraphStore<Kept>>(
     session: &mut Session<S>,
     writer: &mut W,
@@ -398,8 +398,7 @@ fn feed<W: Sink, S: ParagraphStore<Kept>>(
     Ok(())
 }
 
-// Ends a script that has no more bytes. The bytes after the last line end are also a line, unless there are
-// none.
+// Ends a run whose script has no more bytes. If bytes follow the last line end, executes them as a line.
 fn finish<W: Sink, S: ParagraphStore<Kept>>(
     session: &mut Session<S>,
     writer: &mut W,
@@ -415,7 +414,7 @@ fn finish<W: Sink, S: ParagraphStore<Kept>>(
         → IsScriptRun (rules_of session.old.engine) options.now start session.new reader_start reader_now
         writer_start (W.state writer.new) result }
 
-    // An allocation can fail only for the last line.
+    // An allocation can fail only if there is such a line, and only for it.
     ensures memory { IsErrOf result RunFault.Memory → (0 < length reading.old.line.items)
         × FailsAt (rules_of session.old.engine) options.now reading.old.line.items
         reading.new reading.old.lines reading.old.written (held_at session.old)

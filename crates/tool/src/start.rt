@@ -10,7 +10,7 @@ use store::ParagraphStore;
 use stream::front;
 use text_run::RunFault;
 
-/// Opens a session on a text, given as bytes, at a width in columns, which must not be 0.
+/// Opens a session on a text, given as bytes. The width is in columns, and must not be 0.
 ///
 /// Fails with the first of `NotUtf8`, `TextTooLong` and `ParagraphTooLong` that applies. Fails with `Memory`
 /// only if none of them applies.
@@ -35,7 +35,7 @@ pub fn open_text<S: ParagraphStore<Kept> + Drop>(
 }
 
 // Converts an error from `Session::open` to a `RunFault`. A session refuses a text only because the text or
-// one of its paragraphs is too long. Any other fault means that memory ran out.
+// one of its paragraphs is too long. Any other error means that memory ran out.
 fn start_fault(fault: EditFault) -> RunFault
     ensures { result ≡ start_fault fault }
 {

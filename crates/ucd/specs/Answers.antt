@@ -41,7 +41,7 @@ unnamed = record {
 abbrev pub bidi_tag : BidiClass → ℕ
 bidi_tag class = tag_of bidi_type.the_type class
 
--- the bidi class at an index
+-- the bidi class at an index of the enum, or L past the end
 abbrev pub bidi_class_at : ℕ → BidiClass
 bidi_class_at place = slice_index_or bidi.all_classes place L
 
@@ -57,7 +57,7 @@ line_detail_at number = slice_index_or numbered_details number Plain
 abbrev pub line_tag : LineClass → ℕ
 line_tag class = tag_of line_type.the_type class
 
--- the line-breaking number of U+25CC, given its class
+-- the line-breaking number of U+25CC with the detail `DottedCircle`, given its class
 abbrev pub circle_number : LineClass → ℕ
 circle_number AL = 51
 circle_number AI = 52

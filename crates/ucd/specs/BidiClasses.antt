@@ -34,7 +34,7 @@ name_of RLI = codes "RLI"
 name_of FSI = codes "FSI"
 name_of PDI = codes "PDI"
 
--- the class with this short name
+-- the class with this short name, if there is one
 abbrev pub class_named : List ℕ → Option BidiClass
 class_named name = find (λ c. bytes_eq (name_of c) name) all_classes
 

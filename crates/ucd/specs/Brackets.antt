@@ -6,16 +6,16 @@ use Rattle.ucd.specs.Grammar.{Form, code_point}
 use Rattle.ucd.specs.declared.bracket.Bracket.{Bracket}
 use Rattle.ucd.specs.declared.bracket.Mirror.{Mirror}
 
--- a number, if it is a scalar value
+-- the same number if it is a scalar value, or `None` if not
 abbrev pub scalar_only : Option ℕ → Option ℕ
 scalar_only None = None
 scalar_only (Some c) = if scalar c then Some c else None
 
--- the character that 4 to 6 hexadecimal digits denote, if it is a scalar value
+-- the code point that 4 to 6 hexadecimal digits denote, if it is a scalar value
 abbrev pub character_of : List ℕ → Option ℕ
 character_of digits = scalar_only (code_point digits)
 
--- the type of a bracket: `o` for an opening one, and `c` for a closing one
+-- true for the bracket type `o` (opening), false for `c` (closing), and `None` for any other
 abbrev pub opens_of : List ℕ → Option Bool
 opens_of kind = if bytes_eq (codes "o") kind then Some true else (if bytes_eq (codes "c") kind then Some false else None)
 

@@ -41,10 +41,10 @@ is_removed PDF = true
 is_removed BN = true
 is_removed _ = false
 
--- the class at an index
+-- the class at an index, or ON past the end
 abbrev pub class_at : List BidiClass → ℕ → BidiClass
 class_at classes k = slice_index_or classes k ON
 
--- the class in the properties of a character
+-- the bidi class in the properties of a character
 abbrev pub class_in : Properties → BidiClass
 class_in properties = properties.bidi_class

@@ -8,7 +8,7 @@ module _ {V : Type 0} where
   abbrev pub covers : Entry V → ℕ → Bool
   covers e c = nat_le e.first c && nat_le c e.last
 
-  -- the value of the first entry that covers the code point
+  -- the value of the first entry that covers the code point, if any does
   abbrev pub value_at : List (Entry V) → ℕ → Option V
   value_at [] c = None
   value_at (e ∷ es) c = if covers e c then Some e.value else value_at es c
@@ -18,7 +18,7 @@ module _ {V : Type 0} where
     pub whole : (i : ℕ) (e : Entry V) → slice_get es i ≡ Some e → (e.first ≤ e.last) × (e.last < 1114112)
     pub apart : (i : ℕ) (e : Entry V) → slice_get es i ≡ Some e → (c : ℕ) → IsTrue (covers e c) → value_at (take i es) c ≡ None
 
-  -- `named` has a flag for each code point, which says whether the code point has a value
+  -- the flags in `named` say for each code point whether it has a value
   pub record AreNamed (es : List (Entry V)) (named : List Bool) : Type 0 where
     pub len : length named ≡ 1114112
     pub each : (c : ℕ) → c < 1114112 → slice_index_or named c false ≡ is_some (value_at es c)

@@ -10,7 +10,8 @@ use Rattle.ucd.specs.declared.file.FileFault.{FileFault}
 use Rattle.ucd.specs.Entries.{covers, value_at, AddsCharacters, IsTaken, NamesSome}
 
 module _ {V : Type 0} (form : Form V) where
-  -- The value that a line assigns to a character. A surrogate is not a character, so no line assigns it a value.
+  -- The value that a line assigns to a character, if any. A surrogate is not a character, so no line assigns
+  -- it a value.
   abbrev pub given_by : Result (Option (Entry V)) Cause → ℕ → Option V
   given_by (Ok (Some e)) c = if scalar c && covers e c then Some e.value else None
   given_by (Ok None) c = None
@@ -24,7 +25,7 @@ module _ {V : Type 0} (form : Form V) where
   or_else (Some v) other = Some v
   or_else None other = other
 
-  -- the value from the first line that lists the character
+  -- the value from the first line that lists the character, if any does
   abbrev pub value_in : List (List ℕ) → ℕ → Option V
   value_in [] c = None
   value_in (line ∷ lines) c = or_else (given line c) (value_in lines c)
@@ -33,7 +34,7 @@ module _ {V : Type 0} (form : Form V) where
   abbrev pub line_at : List (List ℕ) → ℕ → List ℕ
   line_at lines k = slice_index_or lines k []
 
-  -- line k lists a character that an earlier line lists
+  -- line k lists a character that an earlier line already lists
   abbrev pub NamesAgain : List (List ℕ) → ℕ → Type 0
   NamesAgain lines k = (j : ℕ) × (c : ℕ) × (j < k) × IsSome (given (line_at lines j) c) × IsSome (given (line_at lines k) c)
 

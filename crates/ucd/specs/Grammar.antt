@@ -10,8 +10,8 @@ use Rattle.ucd.specs.declared.grammar.Entry.{Entry}
 abbrev pub is_mark : ℕ → ℕ → Bool
 is_mark mark b = b == mark
 
--- A line ends at U+000A, which is optional on the last line. If a file ends with U+000A, an empty line
--- follows it.
+-- A line ends at U+000A, which is optional on the last line. If a file ends with U+000A, its last line is
+-- empty.
 abbrev pub lines_of : List ℕ → List (List ℕ)
 lines_of file = slice_split (is_mark 10) file
 
@@ -45,15 +45,15 @@ fields_of content = map (trimmed (is_one_of spaces)) (slice_split (is_mark 59) c
 abbrev pub hex_value : List ℕ → ℕ
 hex_value digits = fold (λ n d. 16 * n + digit_value d) 0 digits
 
--- a code point: 4 to 6 hexadecimal digits, at most 10FFFF
+-- whether the bytes denote a code point: 4 to 6 hexadecimal digits, at most 10FFFF
 abbrev pub is_code_point : List ℕ → Bool
 is_code_point digits = nat_le 4 (length digits) && (nat_le (length digits) 6 && (list_all is_ascii_hexdigit digits && nat_le (hex_value digits) 0x10FFFF))
 
 abbrev pub code_point : List ℕ → Option ℕ
 code_point digits = if is_code_point digits then Some (hex_value digits) else None
 
--- The first and last code points of a field: `X`, or `X..Y` if the file has ranges. `points_by` takes the
--- parts of the field between dots.
+-- The first and last code points of a field of the form `X` or, if the file has ranges, `X..Y`. `points_by`
+-- takes the parts of the field between dots.
 abbrev pub both : Option ℕ → Option ℕ → Option (ℕ × ℕ)
 both (Some x) (Some y) = Some (x, y)
 both (Some x) None = None
@@ -75,7 +75,8 @@ pub record Form (V : Type 0) : Type 0 where
   pub has_third : Bool
   pub value : List ℕ → List ℕ → Option (Option V)
 
--- The result of parsing a line: no entry, an entry with its range and value, or the cause of the first test that fails.
+-- The result of parsing a line: no entry, an entry with its range and value, or the cause for which the first
+-- failing test rejects it.
 module _ {V : Type 0} (form : Form V) where
   abbrev pub by_value : ℕ → ℕ → Option (Option V) → Result (Option (Entry V)) Cause
   by_value first last None = Err cause.Value

@@ -9,6 +9,6 @@ pub record IsQuiet (a : PropertyAnswers) : Type 0 where
   pub bracket : a.has_bracket ≡ false
   pub mirror : a.has_mirror ≡ false
 
--- whether a flag is never set in quiet properties
+-- the flag is never set in quiet properties
 abbrev pub IsFlag : (PropertyAnswers → Bool) → Type 0
 IsFlag flag = (a : PropertyAnswers) → IsQuiet a → flag a ≡ false

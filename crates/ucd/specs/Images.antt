@@ -6,11 +6,11 @@
 --     16   u32: the version of Unicode, 65536 times the first number plus 256 times the second: 15.0 or 17.0
 --     20   three u32: the numbers of pages, brackets and mirrors
 --     32   4352 u16: for each block of 256 code points, the number of its page
---   8736   256 u16 for each page: the properties of a code point (Answers.antt says which bits)
+--   8736   256 u16 for each page: the properties of each code point (see Answers.antt for the bits)
 --   next   two u32 for each bracket: its code point, and twice its pair, plus 1 for an opening bracket
 --   next   two u32 for each character with a mirror: its code point and its mirror
 --   last   u64: the checksum of all bytes before it
--- The code points in each part are in ascending order.
+-- The brackets, and the characters with a mirror, are in ascending order of their code points.
 use Rattle.std.specs.Prelude.{◌≡◌, ℕ, zero, suc, ◌+◌, ◌*◌, ◌/◌, ◌%◌, ◌^◌, ◌<◌, ◌≤◌, ◌==◌, ◌&&◌, ◌⊎◌, nat_lt, not, Bool, List, length, take, slice_index, codes, Option, Some, None, is_some, IsSome, IsTrue, option_map, if◌then◌else◌}
 use Rattle.ucd.specs.Answers.{PropertyAnswers, answers_in}
 use Rattle.ucd.specs.Brackets.{scalar_only}
@@ -39,12 +39,12 @@ unfoldable pub checksum : List ℕ → ℕ → ℕ
 checksum bytes zero = 0
 checksum bytes (suc k) = (checksum bytes k * 11400714819323198485 % 2 ^ 64 + u64_at bytes (8 * k)) % 2 ^ 64
 
--- the number of a version of Unicode
+-- the number that encodes a version of Unicode in an image
 abbrev pub version_number : Version → ℕ
 version_number V15_0 = 0x000F_0000
 version_number V17_0 = 0x0011_0000
 
--- the version of Unicode of an image, or 15.0 if the image does not have the number of 17.0
+-- the Unicode version of an image: 17.0 if the header has its number, and otherwise 15.0
 abbrev pub image_version : List ℕ → Version
 image_version bytes = if u32_at bytes 16 == 0x0011_0000 then V17_0 else V15_0
 
@@ -84,16 +84,16 @@ entry_at bytes i = u16_at bytes (8736 + 2 * i)
 abbrev pub bits_at : List ℕ → ℕ → ℕ
 bits_at bytes c = entry_at bytes (page_number bytes (c / 256) * 256 + c % 256)
 
--- the bits encode properties: the bidi class and the line-breaking number are in range, and no mark is a future
--- pictograph
+-- whether the bits encode properties: the bidi class and the line-breaking number are in range, and no mark
+-- is a future pictograph
 abbrev pub is_entry : Version → ℕ → Bool
 is_entry version bits = nat_lt (bits % 32) 23 && (nat_lt (bits / 1024) (number_count version) && not (bits / 128 % 4 == 3))
 
--- the bracket that a number encodes
+-- the bracket that a number encodes, if it encodes one
 abbrev pub bracket_in : ℕ → Option Bracket
 bracket_in number = option_map (λ pair. record { pair = pair; opens = number % 2 == 1 }) (scalar_only (Some (number / 2)))
 
--- the mirror that a number encodes
+-- the mirror that a number encodes, if it encodes one
 abbrev pub mirror_in : ℕ → Option Mirror
 mirror_in number = option_map (λ mirror. record { 0 = mirror }) (scalar_only (Some number))
 
@@ -105,7 +105,7 @@ module _ {V : Type 0} (decode : ℕ → Option V) (bytes : List ℕ) (start : �
   abbrev pub point_value : ℕ → Option V
   point_value k = decode (u32_at bytes (start + 8 * k + 4))
 
-  -- the value that the first `count` pairs assign to a code point
+  -- the value that the first `count` pairs assign to a code point, if any
   unfoldable pub found : ℕ → ℕ → Option V
   found zero c = None
   found (suc k) c = if point_at k == c then point_value k else found k c
@@ -123,11 +123,11 @@ module _ {V : Type 0} (decode : ℕ → Option V) (bytes : List ℕ) (start : �
   abbrev pub AreFlags : (PropertyAnswers → Bool) → ℕ → Type 0
   AreFlags flag count = (c : ℕ) → c < 1114112 → flag (answers_in (bits_at bytes c)) ≡ is_some (found count c)
 
--- the bracket of a code point
+-- the bracket data of a code point, if it is a bracket
 abbrev pub bracket_at : List ℕ → ℕ → Option Bracket
 bracket_at bytes c = found bracket_in bytes (brackets_at bytes) (bracket_count bytes) c
 
--- the mirror of a code point
+-- the mirror of a code point, if it has one
 abbrev pub mirror_at : List ℕ → ℕ → Option Mirror
 mirror_at bytes c = found mirror_in bytes (mirrors_at bytes) (mirror_count bytes) c
 
@@ -170,7 +170,8 @@ pub record IsImage (bytes : List ℕ) : Type 0 where
   pub bracket_flags : AreBracketFlags bytes
   pub mirror_flags : AreMirrorFlags bytes
 
--- Either the condition fails with this cause, or the condition holds and the cause is a later one.
+-- Either the condition is false and `why` is its cause, or the condition is true and a later one determines
+-- `why`.
 abbrev Fails : Type 0 → ImageFault → (ImageFault → Type 0) → ImageFault → Type 0
 Fails condition cause later why = ((¬ condition) × (why ≡ cause)) ⊎ (condition × later why)
 

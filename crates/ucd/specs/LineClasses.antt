@@ -63,7 +63,7 @@ name_of HH = codes "HH"
 name_of VF = codes "VF"
 name_of VI = codes "VI"
 
--- the class with this short name
+-- the class with this short name, if there is one
 abbrev pub class_named : List ℕ → Option LineClass
 class_named name = find (λ c. bytes_eq (name_of c) name) all_classes
 

@@ -8,11 +8,12 @@ use Rattle.ucd.specs.declared.grammar.Entry.{Entry}
 use Rattle.ucd.specs.declared.width.Width.{Width}
 use Rattle.ucd.specs.declared.width.Width.TheVariants as width
 
--- The properties of a code point. `index` holds the number of its page, and `entries` holds the contents of the pages.
+-- The properties of a code point. `index` holds the page number of each block, and `entries` holds the
+-- contents of the pages.
 abbrev pub answers_at : List ℕ → List PropertyAnswers → ℕ → PropertyAnswers
 answers_at index entries c = slice_index_or entries (slice_index index (c / 256) * 256 + c % 256) unnamed
 
--- entries that assign to each code point below n the value of a function at that code point
+-- entries that assign to each code point below n the value of a function at that code point, if there is one
 abbrev pub single : {V : Type 0} → ℕ → Option V → List (Entry V)
 single c None = []
 single c (Some v) = record { first = c; last = c; value = v } ∷ []

@@ -23,7 +23,7 @@ module _ {V : Type 0} where
   abbrev pub above_surrogates : Entry V → Entry V
   above_surrogates e = record { first = max e.first 57344; last = e.last; value = e.value }
 
-  -- the entries for the characters of an entry
+  -- up to two entries that cover the characters of an entry, without the surrogates
   abbrev pub characters_of : Entry V → List (Entry V)
   characters_of e = if_any (below_surrogates e) ++ if_any (above_surrogates e)
 

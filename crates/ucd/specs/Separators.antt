@@ -1,4 +1,4 @@
--- The code points that are paragraph separators in Unicode's files.
+-- The code points that may be paragraph separators in Unicode's files.
 use Rattle.std.specs.Prelude.{◌≡◌, ◌≢◌, ℕ, ◌==◌, ◌||◌, nat_lt, Bool, false}
 use Rattle.ucd.specs.Answers.{PropertyAnswers}
 use Rattle.ucd.specs.declared.bidi_class.BidiClass.TheVariants.{B}

@@ -31,7 +31,7 @@ use Rattle.ucd.specs.Grammar.{Form, lines_of}
 use Rattle.ucd.specs.Versions.{line_class_form, detail_by}
 use Rattle.ucd.specs.Widths.{width_form}
 
--- the mirror as a character
+-- the mirror as a character, if there is one
 abbrev pub mirror_by : Option Mirror → Option ℕ
 mirror_by mirror = option_map (λ m. m.0) mirror
 

@@ -13,7 +13,7 @@ use Rattle.ucd.specs.declared.line_detail.LineDetail.TheVariants.{Plain, Initial
 use Rattle.ucd.specs.declared.version.Version.{Version}
 use Rattle.ucd.specs.declared.version.Version.TheVariants.{V15_0, V17_0}
 
--- the line breaking class with this short name
+-- the line breaking class with this short name, if the version has one
 abbrev pub class_named_in : Version → List ℕ → Option LineClass
 class_named_in V15_0 name = class_named_15 name
 class_named_in V17_0 name = class_named name
@@ -49,7 +49,8 @@ is_alphabetic SG = true
 is_alphabetic XX = true
 is_alphabetic _ = false
 
--- the detail of a character of this class, adjusted for the character's general category
+-- the detail of a character: that of a quotation mark if its class is QU and its category Pi or Pf, and
+-- otherwise `detail`
 abbrev pub quote_by : Category → LineClass → LineDetail → LineDetail
 quote_by InitialQuote class detail = if is_quotation class then Initial else detail
 quote_by FinalQuote class detail = if is_quotation class then Final else detail
@@ -59,7 +60,7 @@ abbrev pub quote_in : Version → Category → LineClass → LineDetail → Line
 quote_in V15_0 category class detail = detail
 quote_in V17_0 category class detail = quote_by category class detail
 
--- the detail of U+25CC, given its class
+-- the detail of U+25CC: `DottedCircle` if LB1 resolves its class to AL, and otherwise `detail`
 abbrev pub circle_by : LineClass → LineDetail → LineDetail
 circle_by class detail = if is_alphabetic class then DottedCircle else detail
 

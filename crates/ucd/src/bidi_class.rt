@@ -81,7 +81,7 @@ impl BidiClass {
         requires { place < BIDI_CLASS_COUNT }
         ensures { result ≡ slice_index_or all_classes place L }
     {
-        // The compiler turns these arms into a copy of the number. A table would cost a load for each
+        // The compiler turns this `match` into a copy of the number. A table would cost a load for each
         // character.
         match place {
             0 => BidiClass::L,
@@ -118,7 +118,7 @@ impl BidiClass {
     }
 }
 
-// Looks up the few names on nearly all lines of DerivedBidiClass.txt. Returns `None` for other names.
+// Looks up the few names that most lines of DerivedBidiClass.txt have. Returns `None` for other names.
 fn frequent(name: &[u8]) -> Option<BidiClass>
     ensures { IfSome result (λ class. name.now ≡ name_of class) }
 {

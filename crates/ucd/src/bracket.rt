@@ -21,14 +21,15 @@ pub struct Bracket {
 #[derive(Clone, Copy, Debug)]
 pub struct Mirror(pub char);
 
-// Parses a character written as 4 to 6 hexadecimal digits.
+// Parses a character written as 4 to 6 hexadecimal digits. Returns `None` for anything else.
 fn character(digits: &[u8]) -> Option<char>
     ensures { result ≡ character_of digits.now }
 {
     char::from_u32(code_point(digits)?)
 }
 
-// Parses a bracket type: `true` for an opening bracket (`o`), `false` for a closing one (`c`).
+// Parses a bracket type. Returns `true` for `o` (opening), `false` for `c` (closing), and `None` for any
+// other.
 fn opens(kind: &[u8]) -> Option<bool>
     ensures { result ≡ opens_of kind.now }
 {

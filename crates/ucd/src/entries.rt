@@ -41,7 +41,7 @@ fn read_table<V: Property>(
     }
 }
 
-// Returns the first fault of a file that could not be read, or an allocation failure if no line is faulty.
+// Returns the first fault of a file that could not be parsed, or an allocation failure if no line is faulty.
 fn fault_of<V: Property>(alloc: Global, version: Version, number: usize, file: &[u8]) -> TableFault
     ensures { IsFaultIn number (V.form version) (lines_of file.now) result }
 {

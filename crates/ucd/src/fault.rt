@@ -45,8 +45,8 @@ pub enum Cause {
     Memory = 7,
 }
 
-/// The first faulty line, in file order and then line order. `Display` writes the file's name, the line's
-/// number and the number of the cause.
+/// The first faulty line, in file order and then line order, or an allocation failure. For a faulty line,
+/// `Display` writes the file's name, the line's number and the number of the cause.
 #[derive(Clone, Copy, Debug, PartialEq, Eq, Error)]
 #[error("{}", Message(.file, .line, .cause))]
 pub struct TableFault {

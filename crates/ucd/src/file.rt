@@ -30,7 +30,7 @@ fn add_line<V: Property>(
     }
 }
 
-/// Adds the entries of a file to an empty table. Fails at the first faulty line.
+/// Adds the entries of a file to an empty table. Fails at the first faulty line, or if memory runs out.
 pub fn read_file<V: Property>(
     version: Version,
     table: RangeTable<V>,

@@ -1,4 +1,4 @@
-//! Parses one line of a table file. A line contains code points and their value, or no entry.
+//! Parses one line of a table file. A line assigns a value to code points, or has no entry.
 ghost use Rattle.std.specs.Prelude.{◌≡◌, ◌<◌, ◌≤◌, length, IfSome, option_map, if◌then◌else◌};
 ghost use Rattle.std.specs.List.{slice_split, before_first, list_all};
 ghost use Rattle.std.specs.Char.{is_ascii_hexdigit};
@@ -123,7 +123,7 @@ fn hex_number(digits: &[u8]) -> Option<u32>
     Some(number)
 }
 
-/// Parses a code point written as 4 to 6 hexadecimal digits.
+/// Parses a code point written as 4 to 6 hexadecimal digits. Returns `None` for anything else.
 pub(crate) fn code_point(digits: &[u8]) -> Option<u32>
     ensures { result ≡ code_point digits.now }
 {
@@ -139,7 +139,8 @@ fn both(first: Option<u32>, last: Option<u32>) -> Option<(u32, u32)>
     Some((first?, last?))
 }
 
-// Returns the first and the last code point of a field of the form `X` or `X..Y`.
+// Returns the first and the last code point of a field of the form `X` or, if `has_ranges` is true, `X..Y`.
+// Returns `None` for any other field.
 fn points(field: &[u8], has_ranges: bool) -> Option<(u32, u32)>
     ensures { result ≡ points_of has_ranges field.now }
 {
@@ -205,7 +206,7 @@ const SPACES: &[u8] = b" \t";
 
 const BLANKS: &[u8] = b" \t\r";
 
-/// Parses one line. Returns `None` if the line has no entry.
+/// Parses one line. Returns `None` if the line has no entry. Fails with the first cause that applies.
 #[inline(always)]
 pub fn read_line<V: Property>(version: Version, line: &[u8]) -> Result<Option<Entry<V>>, Cause>
     ensures { result ≡ reading_of (V.form version) line.now }

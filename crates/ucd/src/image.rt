@@ -19,7 +19,7 @@ use crate::pages::PAGE;
 use std::alloc::{AllocError, Global};
 use std::collections::BTreeMap;
 
-/// Decodes the pages.
+/// Decodes the page numbers and the pages. Fails with `PageNumber`, `Entry` or `Memory`.
 pub fn decode_pages(alloc: Global, bytes: &[u8]) -> Result<ImagePages, ImageFault>
     requires { IsFramed bytes.now }
     ensures known { IfOk result (λ _. ArePagesKnown bytes.now) }
@@ -55,7 +55,7 @@ fn stored_pages(alloc: Global, bytes: &[u8], pages: usize) -> Result<ImagePages,
     ImagePages::new(alloc, index, entries)
 }
 
-/// Decodes the brackets of an image whose pages are valid.
+/// Decodes the brackets of an image whose pages are valid. Fails with `Bracket` or `Memory`.
 pub fn decode_brackets(alloc: Global, bytes: &[u8]) -> Result<BTreeMap<u32, Bracket>, ImageFault>
     requires framed { IsFramed bytes.now }
     requires known { ArePagesKnown bytes.now }
@@ -71,7 +71,7 @@ pub fn decode_brackets(alloc: Global, bytes: &[u8]) -> Result<BTreeMap<u32, Brac
     }
 }
 
-/// Decodes the mirrors of an image whose pages and brackets are valid.
+/// Decodes the mirrors of an image whose pages and brackets are valid. Fails with `Mirror` or `Memory`.
 pub fn decode_mirrors(alloc: Global, bytes: &[u8]) -> Result<BTreeMap<u32, Mirror>, ImageFault>
     requires framed { IsFramed bytes.now }
     requires known { ArePagesKnown bytes.now }
@@ -89,7 +89,7 @@ pub fn decode_mirrors(alloc: Global, bytes: &[u8]) -> Result<BTreeMap<u32, Mirro
 }
 
 /// Returns whether the flag is set for exactly the code points in `points`. The map `points` must contain
-/// exactly the pairs that begin at offset `start`.
+/// exactly the `count` pairs from the offset `start` on.
 pub fn are_flags<P: Point>(
     pages: &ImagePages,
     points: &BTreeMap<u32, P>,
@@ -109,7 +109,7 @@ pub fn are_flags<P: Point>(
     are_flags_points(pages, points) && are_points_flagged::<P>(pages, bytes, start, count)
 }
 
-/// Checks that the flags in the properties agree with the brackets and the mirrors.
+/// Checks that the flags in the properties agree with the brackets and the mirrors. Fails with `Flags`.
 pub fn check_flags(
     pages: &ImagePages,
     brackets: &BTreeMap<u32, Bracket>,

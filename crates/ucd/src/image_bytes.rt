@@ -29,7 +29,7 @@ pub fn u64_at(bytes: &[u8], i: usize) -> u64
     u64::from(u32_at(bytes, i)) + 0x1_0000_0000 * u64::from(u32_at(bytes, i + 4))
 }
 
-/// The factor is odd, so a change of any one 64-bit number changes the checksum.
+/// The factor of the checksum. It is odd, so changing any one 64-bit number changes the checksum.
 const FACTOR: u64 = 0x9E37_79B9_7F4A_7C15;
 
 /// Returns the checksum of the first `count` 64-bit numbers.

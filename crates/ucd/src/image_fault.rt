@@ -26,8 +26,8 @@ pub enum ImageFault {
     /// A block has a page number that does not belong to a page in the image.
     #[error("a page number of the image is out of range")]
     PageNumber,
-    /// A bidi class is out of range, a line breaking class does not exist in the version, or a mark is a
-    /// future pictograph.
+    /// A bidi class is out of range, a line breaking class or detail does not exist in the version, or a mark
+    /// is a future pictograph.
     #[error("the image has invalid properties")]
     Entry,
     /// The code points of the brackets are out of range or not in ascending order, or the other bracket of a

@@ -26,7 +26,7 @@ pub fn are_pages_known(bytes: &[u8], pages: usize) -> bool
     known
 }
 
-/// Returns whether the first `count` numbers of the pages encode properties.
+/// Returns whether each of the first `count` numbers in the pages encodes properties.
 pub fn are_entries(bytes: &[u8], count: usize) -> bool
     requires { 8736 + 2 * count ≤ length bytes.now }
     ensures yes { result ≡ true → (i : ℕ) → i < count
@@ -57,7 +57,7 @@ pub fn index_in(alloc: Global, bytes: &[u8]) -> Result<Vec<u16>, AllocError>
     Ok(index)
 }
 
-/// Returns the properties that the first `count` numbers of the pages encode.
+/// Returns the properties that the first `count` numbers in the pages encode.
 pub fn entries_in(alloc: Global, bytes: &[u8], count: usize) -> Result<Vec<Properties>, AllocError>
     requires room { 8736 + 2 * count ≤ length bytes.now }
     requires valid { (i : ℕ) → i < count
@@ -73,7 +73,7 @@ pub fn entries_in(alloc: Global, bytes: &[u8], count: usize) -> Result<Vec<Prope
     Ok(entries)
 }
 
-/// The pages of an image.
+/// The pages of an image. `loud` is the result of `loud_pages`.
 #[derive(Drop)]
 pub struct ImagePages {
     pub(crate) index: Vec<u16>,
@@ -189,7 +189,7 @@ impl ImagePages {
         true
     }
 
-    /// Returns the pages of the tables.
+    /// Converts the pages of the image to pages of tables.
     pub fn into_pages(self) -> Pages
         ensures index { result.index.items ≡ self.index.items }
         ensures entries { result.entries.items ≡ self.entries.items }

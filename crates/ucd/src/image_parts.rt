@@ -92,7 +92,7 @@ pub fn entry_bytes(alloc: Global, entries: &[Properties]) -> Result<Vec<u8>, All
     Ok(bytes)
 }
 
-/// Returns the pairs of a map as bytes.
+/// Returns the pairs of a map as bytes, in ascending order of their code points.
 pub fn point_bytes<P: Point>(
     alloc: Global,
     points: &BTreeMap<u32, P>,

@@ -38,8 +38,8 @@ pub trait Point: Copy + Drop {
         ensures { result ≡ flag properties };
 }
 
-// Decodes the pair at an offset. Returns the code point and its value, if the code point is in range and at
-// least `next`, and the second number encodes a value.
+// Decodes the pair at an offset. Returns the code point and its value, or `None` if the code point is out of
+// range or less than `next`, or the second number encodes no value.
 fn pair_at<P: Point>(bytes: &[u8], at: usize, next: u32) -> Option<(u32, P)>
     requires { at + 8 ≤ length bytes.now }
     ensures { MatchOption result

@@ -55,7 +55,7 @@ fn whole_checksum(bytes: &[u8]) -> u64
     checksum(bytes, bytes.len() / 8)
 }
 
-// Appends the checksum.
+// Appends the checksum of all bytes.
 fn push_checksum(bytes: &mut Vec<u8>) -> Result<(), AllocError>
     requires { length bytes.old.items % 8 ≡ 0 }
     ensures { OnOk result (AddsChecksum bytes.old.items bytes.new.items) }
@@ -89,7 +89,7 @@ pub fn page_bytes(alloc: Global, pages: &Pages, separates: bool) -> Result<PageB
     Ok(PageBytes { index, entries })
 }
 
-// Returns the properties of all code points.
+// Returns the properties of all code points. If `separates` is set, only LF and CR end paragraphs.
 fn points_of_pages(
     alloc: Global,
     pages: &Pages,

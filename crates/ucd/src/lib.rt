@@ -6,7 +6,7 @@
 //! mirror. The bracket's pair and the mirror are stored in maps.
 //!
 //! `Tables` are made from the contents of the seven files in `FILE_NAMES`, which are passed as `UcdFiles`.
-//! All other crates use the tables:
+//! For example:
 //!
 //! ```rust
 //! let tables = Tables::read(alloc, files)?;

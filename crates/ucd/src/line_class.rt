@@ -172,7 +172,7 @@ impl LineClass {
     }
 }
 
-// Returns the first of these classes that has this short name.
+// Returns the first of these classes that has this short name, or `None` if none does.
 fn named(classes: &[LineClass], name: &[u8]) -> Option<LineClass>
     ensures { result ≡ find (λ c. bytes_eq (name_of c) name.now) classes.now }
 {
@@ -182,7 +182,7 @@ fn named(classes: &[LineClass], name: &[u8]) -> Option<LineClass>
         .find(|class| class.name().as_bytes() == name)
 }
 
-// Looks up the few names on nearly all lines of LineBreak.txt. Returns `None` for other names.
+// Looks up the few names that most lines of LineBreak.txt have. Returns `None` for other names.
 fn frequent(name: &[u8]) -> Option<LineClass>
     ensures all { IfSome result (λ class. Some class ≡ class_named name.now) }
     ensures first { IfSome result (λ class. Some class ≡ class_named_15 name.now) }

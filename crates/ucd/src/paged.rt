@@ -78,7 +78,7 @@ impl PagedTables {
         })
     }
 
-    /// Decodes an image. The parts of the image are checked in the order of the variants of `ImageFault`.
+    /// Decodes an image. The parts of the image are checked in the order that `ImageFault` documents.
     /// Allocates nothing before the frame, the page numbers and the entries have been checked.
     pub fn from_image(alloc: Global, bytes: &[u8]) -> Result<PagedTables, ImageFault>
         ensures ok { IfOk result (IsImageOf bytes.now) }
@@ -178,8 +178,8 @@ impl PagedTables {
         requires { length properties.old ≡ length text.now }
         ensures { properties.new ≡ map (properties_of self.now) text.now }
     {
-        // Borrowing the lists once keeps them in registers. Otherwise, the compiler would have to assume that
-        // each write may move them.
+        // Borrowing the lists once keeps their addresses in registers. Otherwise, the compiler would have to
+        // assume that each write may change them.
         let index = self.pages.index.as_slice();
         let entries = self.pages.entries.as_slice();
         for k in 0..text.len() {

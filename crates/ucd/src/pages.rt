@@ -68,8 +68,8 @@ pub fn entry_of(index: &[u16], entries: &[Properties], c: char) -> Properties
     entries[index[point / PAGE] as usize * PAGE + point % PAGE]
 }
 
-/// Returns the pages of all code points. If the previous block and this block are in the same run, this block
-/// is not examined, because both have the same page.
+/// Returns the pages of all code points. A block in the same run as the whole block before it is not
+/// examined, because both have the same page.
 pub fn pages_of(alloc: Global, version: Version, entries: &Entries) -> Result<Pages, AllocError>
     ensures { IfOk result (λ pages. (c : ℕ) → c < 1114112
         → answers_at pages.index.items pages.entries.items c ≡ said (layers_of version entries.now) c) }
@@ -105,7 +105,8 @@ fn unnamed_points(alloc: Global, len: usize) -> Result<Vec<Properties>, AllocErr
     vec![in alloc; Properties::unnamed(); len]
 }
 
-// Writes the properties of the code points from `start` on to a page. Returns the run in which the page ends.
+// Fills a page with the properties of the code points from `start` on. Returns the runs, moved to the run in
+// which the page ends.
 fn fill<'a>(runs: Runs<'a>, start: usize, page: &mut [Properties]) -> Runs<'a>
     requires page { length page.old ≡ 256 }
     requires start { start + 256 ≤ 1114112 }

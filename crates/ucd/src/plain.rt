@@ -1,7 +1,7 @@
 //! Parses most lines of the table files in one pass.
 //!
-//! Most lines have the form `X ; NAME # COMMENT` or `X..Y ; NAME # COMMENT`, and some have no comment. A line
-//! of another form is left to `grammar`, which splits and trims a line several times.
+//! Most lines have the form `X ; NAME # COMMENT` or `X..Y ; NAME # COMMENT`, where the comment is optional. A
+//! line of another form is left to `grammar`, which splits and trims a line several times.
 ghost use Rattle.std.specs.Prelude.{◌≡◌, ◌<◌, ◌≤◌, length, slice_index, take, true, IfSome, IsTrue, Some};
 ghost use Rattle.ucd.specs.Grammar.{code_point, points_of};
 ghost use Rattle.ucd.specs.PlainLines.{AreSpaces, AreWord, IsPlain, IsWordByte};
@@ -37,7 +37,7 @@ pub fn plain_line(line: &[u8]) -> Option<PlainLine<'_>>
 }
 
 // Parses the code point or range with which a line begins. Returns the first and the last code point, and the
-// index of the byte that follows.
+// index of the byte that follows. Returns `None` if the line begins with anything else.
 fn leading_points(line: &[u8]) -> Option<(u32, u32, usize)>
     ensures within { IfSome result (λ r. (0 < r.2) × (r.2 ≤ length line.now)) }
     ensures points { IfSome result (λ r. points_of true (take r.2 line.now) ≡ Some (r.0, r.1)) }
@@ -51,7 +51,8 @@ fn leading_points(line: &[u8]) -> Option<(u32, u32, usize)>
     Some((first, last, end + 2 + count))
 }
 
-// Parses the code point with which a text begins. Returns the code point and the number of its digits.
+// Parses the code point with which a text begins. Returns the code point and the number of its digits, or
+// `None` if the text begins with anything else.
 fn leading_code_point(text: &[u8]) -> Option<(u32, usize)>
     ensures within { IfSome result (λ r. r.1 ≤ length text.now) }
     ensures point { IfSome result (λ r. code_point (take r.1 text.now) ≡ Some r.0) }
@@ -73,7 +74,7 @@ fn leading_code_point(text: &[u8]) -> Option<(u32, usize)>
     Some((number, count))
 }
 
-// Returns the index of the first byte from `start` on that is not a space.
+// Returns the index of the first byte from `start` on that is not a space, or the length if there is none.
 fn spaces_end(line: &[u8], start: usize) -> usize
     requires { start ≤ length line.now }
     ensures within { (start ≤ result) × (result ≤ length line.now) }
@@ -86,7 +87,7 @@ fn spaces_end(line: &[u8], start: usize) -> usize
     end
 }
 
-// Returns the index of the first byte from `start` on that does not belong to a word.
+// Returns the index of the first byte from `start` on that cannot belong to a word, or the length.
 fn word_end(line: &[u8], start: usize) -> usize
     requires { start ≤ length line.now }
     ensures within { (start ≤ result) × (result ≤ length line.now) }

@@ -139,7 +139,7 @@ impl Properties {
         }
     }
 
-    /// Returns the properties with the detail `Initial` if the line breaking class is QU.
+    /// Returns the properties, with the detail `Initial` if the line breaking class is QU.
     pub(crate) fn with_initial_quote(self) -> Properties
         ensures { result ≡ record self {
           line_detail = quote_by InitialQuote self.line_class self.line_detail;
@@ -152,7 +152,7 @@ impl Properties {
         }
     }
 
-    /// Returns the properties with the detail `Final` if the line breaking class is QU.
+    /// Returns the properties, with the detail `Final` if the line breaking class is QU.
     pub(crate) fn with_final_quote(self) -> Properties
         ensures { result ≡ record self {
           line_detail = quote_by FinalQuote self.line_class self.line_detail;
@@ -165,7 +165,7 @@ impl Properties {
         }
     }
 
-    /// Returns the properties with the detail `DottedCircle` if LB1 resolves the line breaking class to AL.
+    /// Returns the properties, with the detail `DottedCircle` if LB1 resolves the line breaking class to AL.
     pub(crate) fn with_circle(self) -> Properties
         ensures { result ≡ record self { line_detail = circle_by self.line_class self.line_detail } }
     {
@@ -179,7 +179,7 @@ impl Properties {
         }
     }
 
-    /// Returns the properties with a wide East Asian width (F, W or H).
+    /// Returns the properties with the flag for a wide East Asian width (F, W or H) set.
     pub(crate) fn with_wide(self) -> Properties
         ensures { result ≡ record self { is_wide = true } }
     {
@@ -188,7 +188,7 @@ impl Properties {
         }
     }
 
-    /// Returns the properties for a mark. A mark is assigned, so it is not a future pictograph.
+    /// Returns the properties with the flag for a mark set, and the flag for a future pictograph cleared.
     pub(crate) fn with_mark(self) -> Properties
         ensures { result ≡ record self { is_mark = true; is_future_pictograph = false } }
     {
@@ -197,7 +197,7 @@ impl Properties {
         }
     }
 
-    /// Returns the properties for an assigned character, which is not a future pictograph.
+    /// Returns the properties with the flag for a future pictograph cleared, as for any assigned character.
     pub(crate) fn with_assignment(self) -> Properties
         ensures { result ≡ record self { is_future_pictograph = false } }
     {
@@ -206,7 +206,7 @@ impl Properties {
         }
     }
 
-    /// Returns the properties for a character that is Extended_Pictographic and unassigned.
+    /// Returns the properties with the flag for a future pictograph set.
     pub(crate) fn with_future_pictograph(self) -> Properties
         ensures { result ≡ record self { is_future_pictograph = true } }
     {
@@ -318,8 +318,8 @@ impl Properties {
         self.bits / 64 % 2 == 1
     }
 
-    /// Returns everything that line breaking needs as one number: 8 times the line-breaking number, plus 4
-    /// for a wide character, 2 for a mark and 1 for a future pictograph. The line-breaking number of a
+    /// Returns, as one number, all properties that line breaking needs: 8 times the line-breaking number,
+    /// plus 4 for a wide character, 2 for a mark and 1 for a future pictograph. The line-breaking number of a
     /// character without a detail is the index of its line breaking class in `LineClass`.
     pub fn line_index(self) -> usize
         ensures index { result ≡ line_index self }

@@ -38,7 +38,7 @@ fn nothing_named(alloc: Global, len: usize) -> Result<Vec<bool>, AllocError>
     vec![in alloc; false; len]
 }
 
-// Returns whether any code point in `first..end` is named.
+// Returns whether the flag of any code point in `first..end` is set.
 fn has_named(named: &[bool], first: usize, end: usize) -> bool
     requires { (first ≤ end) × (end ≤ length named.now) }
     ensures some { IsTrue result
@@ -55,7 +55,7 @@ fn has_named(named: &[bool], first: usize, end: usize) -> bool
     any
 }
 
-// Marks the code points in `first..end` as named.
+// Sets the flags of the code points in `first..end`.
 fn name_all(named: &mut [bool], first: usize, end: usize)
     requires { (first ≤ end) × (end ≤ length named.old) }
     ensures { (c : ℕ) → slice_index_or named.new c false
@@ -122,8 +122,8 @@ impl<V: Copy> RangeTable<V> {
     }
 
     /// Assigns the entry's value to each character from its first code point to its last, skipping
-    /// surrogates. Fails with `NamedBefore` if one of these characters already has a value, even if memory
-    /// runs out. After an error, the table must not be used.
+    /// surrogates. Fails with `NamedBefore` if one of these characters already has a value, and otherwise
+    /// with `Memory` if memory runs out. After an error, the table must not be used.
     pub fn add(&mut self, entry: Entry<V>) -> Result<(), Cause>
         ensures ok { OnOk result (AddsCharacters self.old self.new entry) }
         ensures taken { IsErrOf result Cause.NamedBefore → IsTaken self.old entry }

@@ -2,7 +2,7 @@
 //!
 //! The lines of most files are in ascending order, or form a few ascending runs. So the entries of all lines
 //! are collected, sorted and compared with their neighbours. This method needs no flag for each code point,
-//! but does not find the first faulty line.
+//! but cannot report the first faulty line.
 ghost use Rattle.std.specs.Prelude.{◌≡◌, List, ◌++◌, false, IsTrue, OnOk, IfOk, IfSome, IsOk};
 ghost use Rattle.ucd.specs.declared.grammar.Entry.{Entry};
 ghost use Rattle.ucd.specs.Entries.{AreApart};
@@ -114,7 +114,7 @@ fn collect_line<V: Property>(
     }
 }
 
-// Appends an entry without its surrogates.
+// Appends an entry without its surrogates, as up to two entries.
 fn push_characters<V: Copy>(entries: &mut Vec<Entry<V>>, entry: Entry<V>) -> Result<(), AllocError>
     ensures { OnOk result (entries.new.items ≡ entries.old.items ++ characters_of entry) }
 {

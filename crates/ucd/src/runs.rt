@@ -96,7 +96,7 @@ impl<'a, V: Layer> Cursor<'a, V> {
         left
     }
 
-    // Applies the value at the run's start, and ends the run where the value in the entries changes.
+    // Returns the run with the value at its start applied, and shortened if the value changes before its end.
     fn applied(&self, version: Version, run: Run) -> Run
         requires ends { EndsFrom run.start self.now }
         requires run { run.start < run.end }
@@ -219,7 +219,7 @@ impl<'a> Runs<'a> {
     ghost use Rattle.ucd.specs.Runs.{ReachesTo};
     ghost use Rattle.ucd.specs.Said.{layers_of};
 
-    /// Returns an empty run before the first code point.
+    /// Starts a pass over all code points, with an empty run before the first one.
     pub fn of(version: Version, entries: &'a Entries) -> Runs<'a>
         ensures { ReachesTo (layers_of version entries.now) result 0 }
     {

@@ -1,4 +1,4 @@
-//! The tables read from the files.
+//! The tables, which are read from the files or decoded from an image.
 ghost use Rattle.std.specs.Prelude.{◌≡◌, ◌≢◌, ◌<◌, ℕ, length, map, true, false, IfOk, IfErr};
 ghost use Rattle.ucd.specs.Separators.{may_separate};
 ghost use Rattle.ucd.specs.declared.bidi_class.BidiClass.TheVariants.{B};
@@ -95,7 +95,8 @@ impl Tables {
 
     /// Decodes a compiled image of tables, as returned by `to_image`. Fails with the first fault of the image
     /// (docs/reference.md), or if memory runs out. Allocates nothing before the faults up to `Entry` have
-    /// been ruled out. Needs time linear in the length of the image.
+    /// been ruled out. Needs time linear in the length of the image, apart from a logarithmic factor for
+    /// brackets and mirrors.
     pub fn from_image(alloc: Global, bytes: &[u8]) -> Result<Tables, ImageFault>
         ensures ok { IfOk result (IsImageOf bytes.now) }
         ensures err { IfErr result (IsImageFault bytes.now) }

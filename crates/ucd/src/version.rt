@@ -3,7 +3,7 @@ ghost use Rattle.std.specs.Prelude.{◌≡◌};
 ghost use Rattle.ucd.specs.Versions.{number_count};
 ghost use Rattle.ucd.specs.Images.{version_number};
 
-/// The Unicode version of the rules in these libraries, and of the table files that `make ucd` copies.
+/// The default Unicode version of these libraries, and the version of the table files that `make ucd` copies.
 pub const UNICODE_VERSION: &str = "Unicode 15.0";
 
 /// A Unicode version that tables can have.

@@ -78,7 +78,7 @@ pub const HORDGULI_CAUSE_REVERSED: usize = 3; // a range ends before it starts
 pub const HORDGULI_CAUSE_FIELD_COUNT: usize = 4; // the wrong number of fields
 pub const HORDGULI_CAUSE_VALUE: usize = 5; // a value that the file does not allow
 pub const HORDGULI_CAUSE_NAMED_BEFORE: usize = 6; // an earlier line names one of its characters
-pub const HORDGULI_CAUSE_TRUNCATED: usize = 8; // fewer bytes than the header has or its counts state
+pub const HORDGULI_CAUSE_TRUNCATED: usize = 8; // fewer bytes than a header has, or than its counts state
 pub const HORDGULI_CAUSE_MAGIC: usize = 9; // the first bytes are not those of an image
 pub const HORDGULI_CAUSE_FORMAT: usize = 10; // another version of the format
 pub const HORDGULI_CAUSE_VERSION: usize = 11; // a version of Unicode that is not supported
@@ -103,7 +103,7 @@ pub const HORDGULI_BRACKET_CASE_C2: u8 = 3; // only the opposite direction insid
 pub const HORDGULI_BRACKET_CASE_D: u8 = 4; // no strong type inside, so N0 does not change the pair
 pub const HORDGULI_BRACKET_CASE_NOT_OTHER: u8 = 5; // unpaired: before N0, its type is not ON
 pub const HORDGULI_BRACKET_CASE_NO_MATCH: u8 = 6; // unpaired: no bracket of its sequence matches
-pub const HORDGULI_BRACKET_CASE_PAST_LIMIT: u8 = 7; // unpaired: pairing stopped at 63 open ones (BD16)
+pub const HORDGULI_BRACKET_CASE_PAST_LIMIT: u8 = 7; // unpaired: pairing stopped with 63 brackets open (BD16)
 pub const HORDGULI_NEUTRAL_N1: u8 = 1;
 pub const HORDGULI_NEUTRAL_N2: u8 = 2;
 pub const HORDGULI_BIDI_CLASS_L: u8 = 0;
@@ -212,7 +212,8 @@ pub struct hordguli_bytes {
     pub length: usize,
 }
 
-/// The first malformed line, in the order of files and then of lines, or the fault in an image.
+/// The first malformed line of the first malformed file, the fault in an image, or the file that cannot be
+/// read.
 #[derive(Clone, Copy, Debug, Default, PartialEq, Eq)]
 #[repr(C)]
 pub struct hordguli_table_fault {
@@ -224,12 +225,13 @@ pub struct hordguli_table_fault {
     pub cause: usize,
 }
 
-/// What an edit replaced: `old_lines` lines from `first_line` on became `new_lines` lines, and likewise for paragraphs.
-/// All other lines are unchanged but renumbered: line `first_line + old_lines` becomes line `first_line + new_lines`,
-/// and so on. If there are fewer lines than before, clear the rows below the last one. By design, damage names whole
-/// paragraphs: all that contain or touch the edited range, even if nothing is inserted or deleted. So text that is
-/// appended after a final separator also replaces the last paragraph. For the lines that changed, see
-/// `hordguli_changed_lines`. A caller that redraws everything may pass NULL as `damage`.
+/// What an edit replaced: `old_lines` lines from `first_line` on became `new_lines` lines, and likewise for
+/// paragraphs. All other lines are unchanged but renumbered: line `first_line + old_lines` becomes line
+/// `first_line + new_lines`, and so on. If there are fewer lines than before, clear the rows below the last
+/// one. By design, damage consists of whole paragraphs: all those that contain or touch the edited range, even
+/// if nothing is inserted or deleted. So appending text after a final separator also replaces the last
+/// paragraph. `hordguli_changed_lines` stores which of these lines changed. A caller that redraws everything
+/// may pass NULL as `damage`.
 #[derive(Clone, Copy, Debug, Default, PartialEq, Eq)]
 #[repr(C)]
 pub struct hordguli_damage {
@@ -260,16 +262,16 @@ pub struct hordguli_counts {
     pub width: usize,
 }
 
-/// Work counters, for checking that edits stay incremental. The counters count characters since the session was opened,
-/// and saturate at UINT64_MAX.
+/// Work counters, for checking that edits stay incremental. Each counts the characters that were processed for
+/// one purpose since the session was opened, and saturates at UINT64_MAX.
 #[derive(Clone, Copy, Debug, Default, PartialEq, Eq)]
 #[repr(C)]
 pub struct hordguli_work {
-    /// levels and break marks computed
+    /// to compute their levels and break marks
     pub analysed: u64,
-    /// line starts computed
+    /// to compute the starts of their lines
     pub filled: u64,
-    /// put into visual order
+    /// to put their lines into visual order
     pub written: u64,
 }
 
@@ -284,7 +286,7 @@ pub struct hordguli_line_info {
     pub shown: usize,
     /// columns of the shown part
     pub columns: usize,
-    /// columns left of the shown part if it is padded
+    /// columns to the left of the shown part if RTL lines are padded; 0 for an LTR line
     pub padding: usize,
     /// base level of its paragraph, 0 or 1
     pub base: u32,
@@ -304,8 +306,8 @@ pub struct hordguli_run {
     pub zero: u32,
 }
 
-/// The character at `pos` that contains an offset. `rest` is how many of its bytes or code units come before the
-/// offset.
+/// The position `pos` of the character that contains a byte or code unit, and the number `rest` of the
+/// character's bytes or code units before that one.
 #[derive(Clone, Copy, Debug, Default, PartialEq, Eq)]
 #[repr(C)]
 pub struct hordguli_position {
@@ -411,37 +413,38 @@ pub struct hordguli_script_run {
     pub zero: u32,
 }
 
-/// How the algorithm arrives at the level of a character (UAX #9). A position that does not exist is UINT32_MAX, and a
-/// class that does not exist is 0xFF. A character that X9 removes has no `sequence`, `sos` and `eos`, no classes after
-/// the original one, and no case.
+/// How the algorithm arrives at the level of a character (UAX #9). A position that does not exist is
+/// UINT32_MAX, and a class that does not exist is 0xFF. A character that X9 removes has no `sequence`, `sos`
+/// or `eos`, no classes after the original one, and no case. Its `left` is the last character before it that
+/// X9 keeps, which determines its level.
 #[derive(Clone, Copy, Debug, Default, PartialEq, Eq)]
 #[repr(C)]
 pub struct hordguli_reason {
     /// innermost embedding, override or isolate around it that does not overflow
     pub opener: u32,
-    /// the PDI of an isolate initiator, or the initiator of a PDI
+    /// matching PDI of an isolate initiator, or matching initiator of a PDI
     pub matching: u32,
     /// first character of its isolating run sequence
     pub sequence: u32,
-    /// the other bracket of a pair, or the bracket before a mark that N0 changes
+    /// other bracket of its pair; for a mark that N0 changes, the bracket before
     pub partner: u32,
-    /// in the cases B, C1 and C2, the first strong character inside the pair that decides
+    /// the character inside a pair that determines case B, C1 or C2
     pub inside: u32,
-    /// the character before a run of neutrals; for one that X9 removes, that with its level
+    /// the character before a run of neutrals
     pub left: u32,
     /// the character after a run of neutrals
     pub right: u32,
     /// HORDGULI_BIDI_CLASS_..: original, after X8, W1 to W7, N0 and N2
     pub class_after: [u8; 11],
-    /// direction of the override that it is directly in, L or R
+    /// direction of the override that applies to it, L or R
     pub override_class: u8,
     /// after X8
     pub embedding_level: u8,
     /// as `hordguli_levels` stores it
     pub level: u8,
-    /// direction of the sequence's start, L or R
+    /// direction at the start of the sequence, L or R
     pub sos: u8,
-    /// direction of its end
+    /// direction at the end of the sequence, L or R
     pub eos: u8,
     /// HORDGULI_BRACKET_CASE_.., or 0 if it is not a bracket
     pub bracket_case: u8,
@@ -454,17 +457,17 @@ pub struct hordguli_reason {
 #[derive(Clone, Copy, Debug, Default, PartialEq, Eq)]
 #[repr(C)]
 pub struct hordguli_break_reason {
-    /// where the base before the mark starts
+    /// start of the base before the mark
     pub base: u32,
-    /// where the nearest base that is not a space starts, which rules with `SP*` read
+    /// start of the last such base that is not a space, for rules with `SP*`
     pub behind_spaces: u32,
-    /// number of the first rule that applies, such as 8 of LB8a
+    /// number of the first rule that applies, such as 8 for LB8a
     pub rule: u8,
-    /// its letter, such as 'a' of LB8a, or 0
+    /// the rule's letter, such as 'a' for LB8a, or 0 if it has none
     pub letter: u8,
-    /// HORDGULI_LINE_CLASS_.. of that base, after LB1 and LB10
+    /// HORDGULI_LINE_CLASS_.. of the base before the mark, after LB1 and LB10
     pub class_before: u8,
-    /// that of the next base or, inside a base, character; 0xFF at the end
+    /// that of the next base or, in a base, of the next character; 0xFF at the end
     pub class_after: u8,
     /// as `hordguli_marks` stores it
     pub mark: u8,
@@ -478,7 +481,7 @@ pub struct hordguli_character {
     pub mirror: u32,
     /// the other bracket of its pair, or 0
     pub pair: u32,
-    /// HORDGULI_MARK and HORDGULI_WIDE
+    /// HORDGULI_MARK, HORDGULI_WIDE, both or 0
     pub flags: u32,
     /// HORDGULI_BIDI_CLASS_..
     pub bidi_class: u8,
@@ -498,8 +501,8 @@ extern "C" {
     /// Returns "15.0", the Unicode version of tables that `hordguli_tables_open_builtin`, `hordguli_tables_open_folder` and
     /// `hordguli_tables_read` open.
     pub fn hordguli_unicode_version() -> *const c_char;
-    /// Returns the Unicode version of column widths, grapheme clusters and scripts, such as "18.0". This version belongs to
-    /// the library, and does not depend on the tables.
+    /// Returns the Unicode version of column widths, grapheme clusters and scripts, such as "18.0". This version
+    /// is fixed in the library, and does not depend on the tables.
     ///
     /// Since: 0.6.
     pub fn hordguli_width_unicode_version() -> *const c_char;
@@ -522,10 +525,10 @@ extern "C" {
         tables: *mut hordguli_tables,
         version: u32,
     ) -> hordguli_status;
-    /// Opens tables from a compiled image, such as the file `tables.image` that is installed with the table files. The
-    /// tables have the version of the image. `fault` may be NULL, and is set only on TABLE_FAULT. The causes up to
-    /// HORDGULI_CAUSE_ENTRY are ruled out before any memory is allocated. If memory runs out before a later cause is found,
-    /// NO_MEMORY is returned.
+    /// Opens tables from a compiled image, such as the file `tables.image` that is installed with the table files.
+    /// The image determines their Unicode version. `fault` may be NULL, and is set only on TABLE_FAULT. The causes
+    /// up to HORDGULI_CAUSE_ENTRY are checked before any memory is allocated. If memory runs out before a later
+    /// cause is found, NO_MEMORY is returned.
     ///
     /// Errors: NULL, OVERLAP, ALREADY_OPEN, TABLE_FAULT, NO_MEMORY.
     ///
@@ -550,7 +553,7 @@ extern "C" {
         files: *const hordguli_bytes,
         fault: *mut hordguli_table_fault,
     ) -> hordguli_status;
-    /// Like `hordguli_tables_read`, with the files of `version`.
+    /// Like `hordguli_tables_read`, but reads files of Unicode `version`.
     ///
     /// Errors: NULL, OVERLAP, UNKNOWN_OPTION (another version), ALREADY_OPEN, TABLE_FAULT, NO_MEMORY.
     ///
@@ -575,7 +578,7 @@ extern "C" {
         folder: *const c_char,
         fault: *mut hordguli_table_fault,
     ) -> hordguli_status;
-    /// Like `hordguli_tables_open_folder`, with the files of `version`. Sets `errno` likewise.
+    /// Like `hordguli_tables_open_folder`, but reads files of Unicode `version`. Sets `errno` in the same way.
     ///
     /// Errors: NULL, OVERLAP, UNKNOWN_OPTION (another version), ALREADY_OPEN, UNREAD_FILE, TABLE_FAULT, NO_MEMORY.
     ///
@@ -588,7 +591,7 @@ extern "C" {
         folder: *const c_char,
         fault: *mut hordguli_table_fault,
     ) -> hordguli_status;
-    /// Stores the version of the tables, such as HORDGULI_UNICODE_15_0.
+    /// Stores the Unicode version of the tables in `*version`, such as HORDGULI_UNICODE_15_0.
     ///
     /// Errors: NULL, OVERLAP, CLOSED.
     ///
@@ -601,23 +604,23 @@ extern "C" {
     ) -> hordguli_status;
     /// Closes the handle. Safe on a closed handle or NULL. The tables are freed once no open session uses them.
     pub fn hordguli_tables_close(tables: *mut hordguli_tables);
-    /// Lays out a text, and writes its lines to a buffer, as UTF-8. `*written` is the byte count. NULL with capacity 0 is
-    /// NO_ROOM if there is anything to write (see BUFFERS). The bytes are those that `hordguli_lines_utf8` writes for all
-    /// lines of a session with these `options`, this `width` and this text. `print` is as in that function. For example, for
-    /// a line of a log:
+    /// Lays out a text, and writes its lines to a buffer, as UTF-8. Stores their length, in bytes, in `*written`.
+    /// NULL with capacity 0 returns NO_ROOM if there is anything to write (see BUFFERS). The bytes are those that
+    /// `hordguli_lines_utf8` writes for all lines of a session with these `options`, this `width` and this text.
+    /// `print` is as in that function. For example, to lay out a line of a log:
     ///
     /// ```c
     /// status = hordguli_layout(&tables, HORDGULI_WEAK_LTR, 80, HORDGULI_PRINT_DEFAULT, line, strlen(line),
     ///                          sizeof buffer, buffer, &written);
     /// ```
     ///
-    /// The handle keeps the memory that a call used. A later call that needs no more memory allocates nothing, unless only
-    /// one of the two calls has HORDGULI_LINE_SEPARATORS. The handle keeps at most 5 MB: memory for a text or for lines of
-    /// more than 65,536 bytes is freed. `hordguli_tables_close` frees what is kept. Threads that call this function at the
-    /// same time each need their own tables handle.
+    /// The handle keeps the memory that a call used. A later call that needs no more memory allocates nothing,
+    /// unless only one of the two calls has HORDGULI_LINE_SEPARATORS. The handle keeps at most 5 MB: memory for a
+    /// text of more than 65,536 bytes, or for as many bytes of lines, is freed. `hordguli_tables_close` frees what
+    /// is kept. Threads that call this function at the same time each need their own tables handle.
     ///
-    /// On NOT_UTF8, `hordguli_valid_utf8` says where. NO_MEMORY comes before NO_ROOM, because the lines are gathered before
-    /// their size is known.
+    /// On NOT_UTF8, call `hordguli_valid_utf8` to find the first invalid byte. NO_MEMORY comes before NO_ROOM,
+    /// because the lines are collected in memory before their size is known.
     ///
     /// Errors: NULL, OVERLAP, WIDTH_OUT_OF_RANGE (above 65,535), UNKNOWN_OPTION, NOT_UTF8, CLOSED, WIDTH_OUT_OF_RANGE (0),
     /// TEXT_TOO_LONG, PARAGRAPH_TOO_LONG, NO_MEMORY, NO_ROOM.
@@ -636,8 +639,8 @@ extern "C" {
         buffer: *mut c_char,
         written: *mut usize,
     ) -> hordguli_status;
-    /// Stores in `*count` the number of characters in UTF-8 text of `length` bytes. On NOT_UTF8, `hordguli_valid_utf8` says
-    /// where.
+    /// Stores in `*count` the number of characters in UTF-8 text of `length` bytes. On NOT_UTF8, call
+    /// `hordguli_valid_utf8` to find the first invalid byte.
     ///
     /// Errors: NULL, OVERLAP, NOT_UTF8.
     ///
@@ -647,9 +650,10 @@ extern "C" {
         length: usize,
         count: *mut usize,
     ) -> hordguli_status;
-    /// Stores in `*valid` the length of the longest prefix of `bytes` that is valid UTF-8: `length` if all of it is valid,
-    /// else the index of the first byte that belongs to no character. An incomplete character at the end is not valid. After
-    /// NOT_UTF8, this is the index of the error, and the text before it is valid.
+    /// Stores in `*valid` the length of the longest prefix of `bytes` that is valid UTF-8: `length` if all bytes
+    /// are valid, else the index of the first invalid byte. A byte is invalid if it belongs to no complete
+    /// character, even at the end of `bytes`. After another function has returned NOT_UTF8, the text before this
+    /// index is valid.
     ///
     /// Errors: NULL, OVERLAP.
     ///
@@ -667,10 +671,11 @@ extern "C" {
     /// - `characters`: characters, for the functions in `Clusters and scripts`, `Rows` and `Levels and properties`
     /// - `offsets`: byte offset of each character
     ///
-    /// On NO_ROOM, `*count` is set and the arrays are unchanged. Text that is not UTF-8 is refused, as in all functions, so
-    /// a position always means the same character. On NOT_UTF8, `hordguli_valid_utf8` says where. To replace invalid bytes
-    /// with U+FFFD, decode the text before the first of them, write U+FFFD, skip one byte, and repeat. Each invalid byte
-    /// then becomes one U+FFFD.
+    /// On NO_ROOM, `*count` is set and the arrays are unchanged. Like all other functions, this one refuses text
+    /// that is not UTF-8, so that positions in the text are the same for all of them. On NOT_UTF8, call
+    /// `hordguli_valid_utf8` to find the first invalid byte. To replace invalid bytes with U+FFFD, decode the text
+    /// before the first of them, write U+FFFD, skip one byte, and repeat. Each invalid byte then becomes one
+    /// U+FFFD.
     ///
     /// Errors: NULL, OVERLAP, NOT_UTF8, NO_ROOM.
     ///
@@ -685,9 +690,9 @@ extern "C" {
         offsets: *mut usize,
         count: *mut usize,
     ) -> hordguli_status;
-    /// Opens a session on a text. `width` is in columns. The session shares the tables, so their handle may be closed
-    /// before the session. On NOT_UTF8, `hordguli_valid_utf8` says where. NO_MEMORY comes directly after CLOSED if 2^63
-    /// sessions share the tables.
+    /// Opens a session on a text. `width` is in columns. The session shares the tables, so their handle may be
+    /// closed before the session. On NOT_UTF8, call `hordguli_valid_utf8` to find the first invalid byte. If 2^63
+    /// sessions already share the tables, NO_MEMORY is returned, and comes directly after CLOSED.
     ///
     /// Errors: NULL, OVERLAP, WIDTH_OUT_OF_RANGE (above 65,535), UNKNOWN_OPTION, NOT_UTF8, ALREADY_OPEN (the session),
     /// CLOSED (the tables), WIDTH_OUT_OF_RANGE (0), TEXT_TOO_LONG, PARAGRAPH_TOO_LONG, NO_MEMORY.
@@ -701,9 +706,10 @@ extern "C" {
         text: *const c_char,
         length: usize,
     ) -> hordguli_status;
-    /// Opens a measured session on a text (see MEASURED TEXT). `width` is in the caller's unit, from 1 to 2,147,483,647. All
-    /// advances are 0 until `hordguli_set_advances` sets them, so lines end at mandatory breaks only. On NOT_UTF8,
-    /// `hordguli_valid_utf8` says where. The rest is as in `hordguli_session_open`.
+    /// Opens a measured session on a text (see MEASURED TEXT). `width` is in the caller's unit, from 1 to
+    /// 2,147,483,647. All advances are 0 until `hordguli_set_advances` sets them, so lines end at mandatory breaks
+    /// only. On NOT_UTF8, call `hordguli_valid_utf8` to find the first invalid byte. Otherwise like
+    /// `hordguli_session_open`.
     ///
     /// Errors: NULL, OVERLAP, UNKNOWN_OPTION, NOT_UTF8, ALREADY_OPEN (the session), CLOSED (the tables), WIDTH_OUT_OF_RANGE,
     /// TEXT_TOO_LONG, PARAGRAPH_TOO_LONG, NO_MEMORY.
@@ -721,8 +727,9 @@ extern "C" {
     ) -> hordguli_status;
     /// Frees the session and closes the handle. Safe on a closed handle or NULL.
     pub fn hordguli_session_close(session: *mut hordguli_session);
-    /// Inserts text before the character at `pos`, or at the end of the text. Stores in `*damage` which lines were replaced.
-    /// On NOT_UTF8, `hordguli_valid_utf8` says where.
+    /// Inserts text before the character at `pos`, or at the end if `pos` is the length of the text. Stores in
+    /// `*damage` which lines were replaced. On NOT_UTF8, call `hordguli_valid_utf8` to find the first invalid
+    /// byte.
     ///
     /// Errors: NULL, OVERLAP, NOT_UTF8, CLOSED, OUT_OF_RANGE, TEXT_TOO_LONG, PARAGRAPH_TOO_LONG, NO_MEMORY.
     ///
@@ -745,8 +752,8 @@ extern "C" {
         count: usize,
         damage: *mut hordguli_damage,
     ) -> hordguli_status;
-    /// Replaces the `count` characters that start at `pos` with text, in one edit. On NOT_UTF8, `hordguli_valid_utf8` says
-    /// where.
+    /// Replaces the `count` characters that start at `pos` with text, in one edit. On NOT_UTF8, call
+    /// `hordguli_valid_utf8` to find the first invalid byte.
     ///
     /// Errors: NULL, OVERLAP, NOT_UTF8, CLOSED, OUT_OF_RANGE, TEXT_TOO_LONG, PARAGRAPH_TOO_LONG, NO_MEMORY.
     ///
@@ -759,8 +766,8 @@ extern "C" {
         length: usize,
         damage: *mut hordguli_damage,
     ) -> hordguli_status;
-    /// Sets the width, in columns, and rewraps the paragraphs. The damage covers all lines, even if the width is the same. In
-    /// a measured session, the width is in the caller's unit.
+    /// Sets the width, in columns, and rewraps the paragraphs. The damage covers all lines, even if the width is
+    /// the same. In a measured session, the width is in the caller's unit, and also at most 65,535.
     ///
     /// Errors: NULL, OVERLAP, WIDTH_OUT_OF_RANGE, CLOSED, NO_MEMORY.
     ///
@@ -771,7 +778,7 @@ extern "C" {
         width: u32,
         damage: *mut hordguli_damage,
     ) -> hordguli_status;
-    /// Sets the width of a measured session, from 1 to 2,147,483,647. The rest is as in `hordguli_set_width`.
+    /// Sets the width of a measured session, from 1 to 2,147,483,647. Otherwise like `hordguli_set_width`.
     ///
     /// Errors: NULL, OVERLAP, CLOSED, NOT_MEASURED, WIDTH_OUT_OF_RANGE, NO_MEMORY.
     ///
@@ -783,13 +790,13 @@ extern "C" {
         width: u32,
         damage: *mut hordguli_damage,
     ) -> hordguli_status;
-    /// Stores in `*changed` which lines changed in the last successful call that edited the text, set the width or set
-    /// advances. These are the lines of the call's damage, which names whole paragraphs, without the longest run of
-    /// unchanged lines at the start, and then without the longest such run at the end. An unchanged line has the same
-    /// characters, levels, maps, columns, advances, base level and length as before, and is the first line of its paragraph
-    /// if and only if it was before. The padding, which depends on the width, is not compared: RTL lines move when the
-    /// width changes, so draw all of them then. After the session is opened, all lines count as changed. A failed call does
-    /// not change the result.
+    /// Stores in `*changed` which lines changed in the last successful call that edited the text, set the width or
+    /// set advances. These are the lines of the call's damage, which consists of whole paragraphs, except the
+    /// unchanged lines at its start and then those at its end. An unchanged line has the same characters, levels,
+    /// maps, columns, advances, base level and length as before, and is the first line of its paragraph if and
+    /// only if it was before. The padding, which depends on the width, is not compared: RTL lines move when the
+    /// width changes, so redraw all of them. After the session is opened, all lines count as changed. A failed
+    /// call does not change the result.
     ///
     /// Errors: NULL, OVERLAP, CLOSED.
     ///
@@ -803,8 +810,9 @@ extern "C" {
     /// Sets the advances of the `count` characters that start at `pos`, in a measured session, and rewraps the paragraphs
     /// that contain them. Stores in `*damage` which lines were replaced: none if `count` is 0.
     ///
-    /// After an edit, set the advances of all new paragraphs, since a shaper may choose other glyphs next to the edit.
-    /// `hordguli_paragraph` stores where they start and how long they are.
+    /// After an edit, set the advances of all new paragraphs, since a shaper may choose other glyphs next to the
+    /// edit. `hordguli_paragraph` stores the start and the length of each. For example, with a function `measure`
+    /// of the caller:
     ///
     /// ```c
     /// status = hordguli_insert(&session, pos, text, length, &edited);
@@ -816,7 +824,8 @@ extern "C" {
     ///
     /// Errors: NULL, OVERLAP, CLOSED, NOT_MEASURED, OUT_OF_RANGE, PARAGRAPH_TOO_LONG, NO_MEMORY.
     ///
-    /// Cost: O(log n), plus O(`count`), plus wrapping these paragraphs. Levels and break marks are not computed again.
+    /// Cost: O(log n), plus O(`count`), plus wrapping the paragraphs. Levels and break marks are not computed
+    /// again.
     ///
     /// Since: 0.6.
     pub fn hordguli_set_advances(
@@ -826,7 +835,7 @@ extern "C" {
         advances: *const u32,
         damage: *mut hordguli_damage,
     ) -> hordguli_status;
-    /// Stores the size of a session in `*counts`.
+    /// Stores the numbers of characters, lines and paragraphs, and the width, in `*counts`.
     ///
     /// Errors: NULL, OVERLAP, CLOSED.
     ///
@@ -879,11 +888,12 @@ extern "C" {
         vtol: *mut u32,
         columns: *mut usize,
     ) -> hordguli_status;
-    /// Stores the directional runs of a line's shown part, from left to right, for shaping text: the longest ranges of
-    /// characters at one level after L1. The runs do not depend on HORDGULI_REORDER_NSM and HORDGULI_REORDER_CLUSTERS, which
-    /// move characters only inside runs. The number of runs is stored in `*count`, and the runs in an array of `capacity`
-    /// elements. NULL with capacity 0 returns NO_ROOM if there are runs (see BUFFERS). Fails with OUT_OF_RANGE if the line
-    /// does not exist. To read the characters of a run in logical order:
+    /// Stores the directional runs of a line's shown part, from left to right, for shaping text: the longest
+    /// ranges of characters at one level after L1. The runs do not depend on HORDGULI_REORDER_NSM or
+    /// HORDGULI_REORDER_CLUSTERS, which move characters only inside runs. The number of runs is stored in
+    /// `*count`, and the runs in an array of `capacity` elements. NULL with capacity 0 returns NO_ROOM if there
+    /// are runs (see BUFFERS). Fails with OUT_OF_RANGE if the line does not exist. To read the characters of a run
+    /// in logical order:
     ///
     /// ```c
     /// status = hordguli_line_start(&session, line, &start);
@@ -912,7 +922,7 @@ extern "C" {
     ///                              HORDGULI_PRINT_DEFAULT, capacity, buffer, &length);
     /// ```
     ///
-    /// NO_MEMORY comes before NO_ROOM, because the output is gathered before its size is known.
+    /// NO_MEMORY comes before NO_ROOM, because the output is collected in memory before its size is known.
     ///
     /// Errors: NULL, OVERLAP, UNKNOWN_OPTION, CLOSED, OUT_OF_RANGE, NO_MEMORY, NO_ROOM.
     ///
@@ -994,8 +1004,9 @@ extern "C" {
         pos: usize,
         unit: *mut usize,
     ) -> hordguli_status;
-    /// Stores the position of a UTF-8 byte, counted from 0, in `*position`. At the end of the text, `pos` is the number of
-    /// characters and `rest` is 0. Fails with OUT_OF_RANGE if `byte` is past the end.
+    /// Stores in `*position` which character contains UTF-8 byte `byte` of the text, counted from 0. At the end of
+    /// the text, `pos` is the number of characters and `rest` is 0. Fails with OUT_OF_RANGE if `byte` is past the
+    /// end.
     ///
     /// Errors: NULL, OVERLAP, CLOSED, OUT_OF_RANGE.
     ///
@@ -1007,8 +1018,9 @@ extern "C" {
         byte: usize,
         position: *mut hordguli_position,
     ) -> hordguli_status;
-    /// Stores the position of a UTF-16 code unit, counted from 0, in `*position`. At the end of the text, `pos` is the number
-    /// of characters and `rest` is 0. Fails with OUT_OF_RANGE if `unit` is past the end.
+    /// Stores in `*position` which character contains UTF-16 code unit `unit` of the text, counted from 0. At the
+    /// end of the text, `pos` is the number of characters and `rest` is 0. Fails with OUT_OF_RANGE if `unit` is
+    /// past the end.
     ///
     /// Errors: NULL, OVERLAP, CLOSED, OUT_OF_RANGE.
     ///
@@ -1038,12 +1050,13 @@ extern "C" {
         levels: *mut u8,
         marks: *mut u8,
     ) -> hordguli_status;
-    /// Stores the place of the character at `pos` in `*place`. If `pos` is the end of the text, the place is after the last
-    /// character. But if the text is empty or ends with a separator, the place is the start of the next paragraph, which
-    /// does not exist yet. Then `paragraph` and `line` are the numbers of paragraphs and lines in the text.
+    /// Stores the place of the character at `pos` in `*place`. If `pos` is the end of the text, the place is after
+    /// the last character. But if the text is empty or ends with a separator, the place of its end is the start of
+    /// a new paragraph, which does not exist yet. In this case, `paragraph` and `line` are the numbers of
+    /// paragraphs and lines in the text.
     ///
-    /// U+2028, U+000B and U+000C end a line, but not its paragraph. At the end of a text that ends with one, the place and
-    /// the caret stay on that line: a new line would have no character.
+    /// U+2028, U+000B and U+000C end a line, but not its paragraph. At the end of a text that ends with one of
+    /// these, the place and the caret stay on its line: a new line would have no character.
     ///
     /// Errors: NULL, OVERLAP, CLOSED, OUT_OF_RANGE.
     ///
@@ -1054,11 +1067,11 @@ extern "C" {
         place: *mut hordguli_place,
     ) -> hordguli_status;
     /// Stores in `*caret` where to draw the caret for `pos`. New programs call `hordguli_edge_caret`.
-    ///   - Before a shown character: at its left edge if its level is even, else at its right edge. At an odd level, with
-    ///     HORDGULI_REORDER_CLUSTERS or HORDGULI_REORDER_NSM, that can be inside its cluster; `hordguli_edge_caret` stores the
-    ///     end of the cluster.
-    ///   - Before a character that is not shown, and at the end of the text: at the end of the line. The end is right of all
-    ///     columns in an LTR paragraph, and column 0 in an RTL paragraph.
+    ///   - Before a shown character: at its left edge if its level is even, else at its right edge. At an odd
+    ///     level, with HORDGULI_REORDER_CLUSTERS or HORDGULI_REORDER_NSM, this edge can be inside the character's
+    ///     cluster; `hordguli_edge_caret` stores the end of the cluster.
+    ///   - Before a character that is not shown, and at the end of the text: at the end of the line. The end is to
+    ///     the right of all columns in an LTR paragraph, and at column 0 in an RTL paragraph.
     ///   - At the start of a paragraph that does not exist yet (see `hordguli_place_of`): at column 0. `level` is then the
     ///     base level of an empty paragraph. If this level is odd, draw the caret at the right edge of the screen.
     ///
@@ -1077,7 +1090,8 @@ extern "C" {
     ///     0.
     ///   - In a line of width 0: the first character, with `trailing` 0.
     ///
-    /// So `trailing` is 0 except to the right of the text. To place the caret at screen column `x` of a padded line:
+    /// So `trailing` can be 1 only to the right of the shown part. To place the caret at screen column `x` of a
+    /// padded line:
     ///
     /// ```c
     /// status = hordguli_hit_at(&session, line, x - info.padding, &hit);
@@ -1085,8 +1099,9 @@ extern "C" {
     /// if (!status) pos = hit.trailing ? cluster.end : cluster.start;
     /// ```
     ///
-    /// If `x` is in the padding, use column 0. Then, if the width of the line is not 0 and the level of the character (see
-    /// `hordguli_caret_at`) is odd, set `trailing` to 1. `cluster.end` can be the start of the next line.
+    /// If `x` is in the padding, use column 0. In that case, if the width of the line is not 0 and the level of
+    /// the character (see `hordguli_caret_at`) is odd, set `trailing` to 1. `cluster.end` can be the start of the
+    /// next line.
     ///
     /// Errors: NULL, OVERLAP, CLOSED, OUT_OF_RANGE.
     ///
@@ -1102,15 +1117,17 @@ extern "C" {
     ///
     /// Errors: NULL, OVERLAP, CLOSED, OUT_OF_RANGE, NO_MEMORY.
     ///
-    /// Cost: O(log n), plus time and memory proportional to the characters around `pos`, up to the nearest places where a
-    /// cluster ends regardless of context. At worst, as among flags, these are all characters of the paragraph.
+    /// Cost: O(log n), plus time and memory proportional to the characters around `pos`, up to the nearest places
+    /// where a cluster ends regardless of context. At worst, as in a paragraph of flags, these are all characters
+    /// of the paragraph.
     pub fn hordguli_cluster_at(
         session: *mut hordguli_session,
         pos: usize,
         cluster: *mut hordguli_cluster,
     ) -> hordguli_status;
-    /// Stores in `*word` the word that contains the character at `pos`: the segment between two word boundaries (UAX #29)
-    /// in the paragraph. Fails with OUT_OF_RANGE if `pos` is the end of the text.
+    /// Stores in `*word` the word that contains the character at `pos`: the segment of the paragraph between the
+    /// last word boundary (UAX #29) at or before `pos` and the next one. Fails with OUT_OF_RANGE if `pos` is the
+    /// end of the text.
     ///
     /// The next word starts at `word.end`, and the previous word contains the character at `word.start - 1`.
     ///
@@ -1124,11 +1141,12 @@ extern "C" {
         pos: usize,
         word: *mut hordguli_word,
     ) -> hordguli_status;
-    /// Stores the columns that the characters from `from` up to but not including `to` cover in a line, for drawing a
-    /// selection: as few spans as possible, from left to right. Where the direction changes, a selection can have several
-    /// spans. `from` and `to` are positions in the text; those outside the line are ignored. The number of spans is stored
-    /// in `*count`, and the spans in an array of `capacity` elements. NULL with capacity 0 returns NO_ROOM if there are
-    /// spans (see BUFFERS). Fails with OUT_OF_RANGE if the line does not exist.
+    /// Stores the columns that the characters from `from` up to but not including `to` cover in a line, for
+    /// drawing a selection: as few spans as possible, from left to right. Where the direction changes, a selection
+    /// can have several spans. `from` and `to` are positions in the text; characters outside the line are ignored.
+    /// The number of spans is stored in `*count`, and the spans in an array of `capacity` elements. NULL with
+    /// capacity 0 returns NO_ROOM if there are spans (see BUFFERS). Fails with OUT_OF_RANGE if the line does not
+    /// exist.
     ///
     /// ```c
     /// for (size_t line = first_line; line <= last_line; line++) {
@@ -1153,14 +1171,18 @@ extern "C" {
     ) -> hordguli_status;
     /// Stores in `*caret` where to draw the caret at an edge: on the line of the character that the edge belongs to. This is
     /// the character at `pos` for HORDGULI_BEFORE, and the character before `pos` for HORDGULI_AFTER.
-    ///   - If a caret unit begins (or ends) with that character: at the start (or end) of the unit.
-    ///   - At another shown character: at its leading edge, which is the left one if its level is even, or its trailing edge.
-    ///   - At a character that is not shown, and before the end of the text: as in `hordguli_caret_at`.
+    ///   - For HORDGULI_BEFORE, if a caret unit begins with that character: at the start of the unit.
+    ///   - For HORDGULI_AFTER, if a caret unit ends with that character: at the end of the unit.
+    ///   - Otherwise, at a shown character: at its leading edge (HORDGULI_BEFORE) or its trailing edge
+    ///     (HORDGULI_AFTER). The leading edge is the left one if the level is even, else the right one.
+    ///   - At a character that is not shown, and for the edge before the end of the text: as in
+    ///     `hordguli_caret_at`.
     ///
-    /// `level` is the level of that character. In the line where a new paragraph would start, an odd `level` means that the
-    /// caret is at the right edge of the screen. A block cursor covers the cell at `column`, or at an odd level the cell to
-    /// its left. If there is no such cell, it covers the nearest one. Fails with OUT_OF_RANGE if the position is past the
-    /// end of the text, and for the edge after position 0.
+    /// `level` is the level of that character, or the base level if the character is not shown or there is none.
+    /// In the line where a new paragraph would start, an odd `level` means that the caret is at the right edge of
+    /// the screen. A block cursor covers the cell at `column` if `level` is even, else the cell to the left of
+    /// `column`. If there is no such cell, it covers the nearest one. Fails with OUT_OF_RANGE if the position is
+    /// past the end of the text, and for the edge after position 0.
     ///
     /// Errors: NULL, OVERLAP, UNKNOWN_OPTION, CLOSED, OUT_OF_RANGE, NO_MEMORY.
     ///
@@ -1172,11 +1194,11 @@ extern "C" {
         edge: hordguli_edge,
         caret: *mut hordguli_caret,
     ) -> hordguli_status;
-    /// Moves a caret to the nearest boundary to the left or right on its line. Stores the edge there in `*next`, and 1 in
-    /// `*moved`. The stored edge is an edge of the caret unit that was passed. At the end of the line, stores 0 in `*moved`,
-    /// and leaves `*next` unchanged. The caller then chooses the next line. Column 0 is its left end, and SIZE_MAX its right
-    /// end. In a left-to-right document, the key Right leads to the left end of the line below, and Left to the right end of
-    /// the line above:
+    /// Moves a caret to the nearest boundary to the left or right on its line. Stores the edge there in `*next`,
+    /// and 1 in `*moved`. The stored edge is an edge of the caret unit that was passed. At the end of the line,
+    /// stores 0 in `*moved`, and leaves `*next` unchanged. The caller then calls `hordguli_edge_at` for another
+    /// line, with column 0 for its left end, or SIZE_MAX for its right end. In a left-to-right document, the key
+    /// Right leads to the left end of the line below, and Left to the right end of the line above:
     ///
     /// ```c
     /// // Right
@@ -1210,10 +1232,11 @@ extern "C" {
     /// see `hordguli_nearest_edge`. Column 0 is the left edge of the shown part, to the right of any padding.
     ///   - In the shown part: the left end of the caret unit that covers the column.
     ///   - Right of the shown part: its right end. So columns 0 and SIZE_MAX are the two ends of the line on the screen.
-    ///   - In a line of width 0: before its start.
-    ///   - In the line where a new paragraph would start (see `hordguli_place_of`): before the end of the text.
+    ///   - In a line of width 0: the edge before its start.
+    ///   - In the line where a new paragraph would start (see `hordguli_place_of`): the edge before the end of the
+    ///     text.
     ///
-    /// Fails with OUT_OF_RANGE for later lines.
+    /// Fails with OUT_OF_RANGE if `line` is past the line that contains the end of the text.
     ///
     /// Errors: NULL, OVERLAP, CLOSED, OUT_OF_RANGE, NO_MEMORY.
     ///
@@ -1226,9 +1249,10 @@ extern "C" {
         column: usize,
         edge: *mut hordguli_edge,
     ) -> hordguli_status;
-    /// Stores in `*edge` the edge nearest to a column of a line, for mouse clicks, which may hit either half of a character.
-    /// In the shown part, this is the nearer end of the caret unit that covers the column, or the right end at the unit's
-    /// middle. Elsewhere, and in a unit of one column, this is the edge that `hordguli_edge_at` stores.
+    /// Stores in `*edge` the edge nearest to a column of a line, for mouse clicks, which may hit either half of a
+    /// character. In the shown part, this is the nearer end of the caret unit that covers the column, or the right
+    /// end if both are equally near. Elsewhere, and in a unit of one column, this is the edge that
+    /// `hordguli_edge_at` stores.
     ///
     /// Fails with OUT_OF_RANGE for the same lines as `hordguli_edge_at`.
     ///
@@ -1243,16 +1267,16 @@ extern "C" {
         column: usize,
         edge: *mut hordguli_edge,
     ) -> hordguli_status;
-    /// Stores the first and the last edge of a line in logical order, for the keys Home and End. The first edge is before the
-    /// start of the line. The last one is
-    ///   - before the separator that ends the line, if there is one (bidi class B, or line class BK, CR, LF or NL). CR LF is
-    ///     one separator;
+    /// Stores the first and the last edge of a line in logical order, for the keys Home and End. The first edge is
+    /// before the start of the line. The last edge is
+    ///   - before the separator that ends the line, if there is one: a character of bidi class B or of line class
+    ///     BK, CR, LF or NL, or the pair CR LF;
     ///   - else, on the last line of the text, before the end of the text;
     ///   - else before the first space that is not shown;
     ///   - else after the last character of the line.
     ///
-    /// In the line where a new paragraph would start, both edges are before the end of the text. Fails with OUT_OF_RANGE for
-    /// later lines.
+    /// In the line where a new paragraph would start, both edges are before the end of the text. Fails with
+    /// OUT_OF_RANGE if `line` is past the line that contains the end of the text.
     ///
     /// Errors: NULL, OVERLAP, CLOSED, OUT_OF_RANGE.
     ///
@@ -1308,9 +1332,9 @@ extern "C" {
     ///   - If the property is Common or Inherited, as for a space, a digit or a mark, the character has the script of the
     ///     character before it. At the start of the text, such a character has the first script that follows, or Common
     ///     (`Zyyy`) if none does.
-    ///   - But a closing bracket whose property is Common has the script of its opening bracket, if it has one. The tables
-    ///     determine which characters are brackets. Of brackets that are nested more than 63 deep, only the innermost 63 are
-    ///     matched.
+    ///   - But a closing bracket whose property is Common has the script of the opening bracket that it matches,
+    ///     if any. The tables determine which characters are brackets. If more than 63 opening brackets are
+    ///     nested, only the innermost 63 are matched.
     ///
     /// The property Script_Extensions is not used. The number of runs is stored in `*run_count`, and the runs in an array of
     /// `capacity` elements. NULL with capacity 0 returns NO_ROOM, unless `count` is 0 (see BUFFERS). NO_MEMORY comes before
@@ -1329,12 +1353,12 @@ extern "C" {
         runs: *mut hordguli_script_run,
         run_count: *mut usize,
     ) -> hordguli_status;
-    /// Puts a row of `count` characters into visual order. The caller chooses where the row starts and ends. `base` is the
-    /// base level of its paragraph (`hordguli_base`), and `levels` are the levels of the row's characters in the whole
-    /// paragraph (`hordguli_levels`). `options` can have HORDGULI_REORDER_NSM and HORDGULI_REORDER_CLUSTERS. Only these
-    /// characters determine the clusters. Stores `count` elements in each array. Each array has `capacity` elements. NULL
-    /// arrays are skipped, so with all arrays NULL any capacity is enough (see BUFFERS). Positions count from the start of
-    /// the row.
+    /// Puts a row of `count` characters into visual order. The caller chooses where the row starts and ends.
+    /// `base` is the base level of its paragraph (`hordguli_base`), and `levels` are the levels of the row's
+    /// characters in the whole paragraph (`hordguli_levels`). `options` can have HORDGULI_REORDER_NSM and
+    /// HORDGULI_REORDER_CLUSTERS. The clusters depend only on the characters of the row. Stores `count` elements
+    /// in each array. Each array has `capacity` elements. NULL arrays are skipped, so with all arrays NULL any
+    /// capacity is enough (see BUFFERS). Positions count from the start of the row.
     /// - `visual`: characters in visual order, mirrored (UAX #9, L4)
     /// - `row_levels`: level of each character after L1, in logical order
     /// - `ltov`: visual position of each logical position
@@ -1373,10 +1397,11 @@ extern "C" {
         ltov: *mut u32,
         vtol: *mut u32,
     ) -> hordguli_status;
-    /// Stores the directional runs of a row, from left to right, for shaping text (see `hordguli_runs`). Positions count
-    /// from the start of the row. `base`, `characters` and `levels` are as in `hordguli_row`. The number of runs is stored
-    /// in `*run_count`, and the runs in an array of `capacity` elements. NULL with capacity 0 returns NO_ROOM, unless
-    /// `count` is 0 (see BUFFERS). NO_MEMORY comes before NO_ROOM, because the levels after L1 are gathered first.
+    /// Stores the directional runs of a row, from left to right, for shaping text (see `hordguli_runs`). Positions
+    /// count from the start of the row. `base`, `characters` and `levels` are as in `hordguli_row`. The number of
+    /// runs is stored in `*run_count`, and the runs in an array of `capacity` elements. NULL with capacity 0
+    /// returns NO_ROOM, unless `count` is 0 (see BUFFERS). NO_MEMORY comes before NO_ROOM, because memory for the
+    /// levels after L1 is allocated first.
     ///
     /// Errors: NULL, OVERLAP, CLOSED, NOT_A_CHARACTER, OUT_OF_RANGE, NO_MEMORY, NO_ROOM.
     ///
@@ -1418,8 +1443,8 @@ extern "C" {
         capacity: usize,
         levels: *mut u8,
     ) -> hordguli_status;
-    /// Stores in `marks` the break mark after each character. `options` is 0 or HORDGULI_WHOLE_NUMBERS. NULL returns
-    /// NO_ROOM, unless `count` is 0 (see BUFFERS).
+    /// Stores in `marks` the break mark after each character. `options` can have HORDGULI_WHOLE_NUMBERS. NULL
+    /// returns NO_ROOM, unless `count` is 0 (see BUFFERS).
     ///
     /// Errors: NULL, OVERLAP, UNKNOWN_OPTION, CLOSED, NO_ROOM, NOT_A_CHARACTER, NO_MEMORY.
     ///
@@ -1449,9 +1474,9 @@ extern "C" {
         capacity: usize,
         reasons: *mut hordguli_reason,
     ) -> hordguli_status;
-    /// Stores in `reasons` which rule decides the break mark after each character. The rules are those of the tables'
-    /// version. `options` is 0 or HORDGULI_WHOLE_NUMBERS. NULL returns NO_ROOM, unless `count` is 0 (see BUFFERS). The marks
-    /// are those of `hordguli_marks`.
+    /// Stores in `reasons` which rule decides the break mark after each character. The rules are those of the
+    /// tables' Unicode version. `options` can have HORDGULI_WHOLE_NUMBERS. NULL returns NO_ROOM, unless `count` is
+    /// 0 (see BUFFERS). The marks are those of `hordguli_marks`.
     ///
     /// Errors: NULL, OVERLAP, UNKNOWN_OPTION, CLOSED, NO_ROOM, OUT_OF_RANGE (`count` is UINT32_MAX or more),
     /// NOT_A_CHARACTER, NO_MEMORY.

@@ -181,7 +181,7 @@ numbers! {
     VALUE = HORDGULI_CAUSE_VALUE;
     /// an earlier line names one of its characters
     NAMED_BEFORE = HORDGULI_CAUSE_NAMED_BEFORE;
-    /// fewer bytes than the header has or its counts state
+    /// fewer bytes than a header has, or than its counts state
     TRUNCATED = HORDGULI_CAUSE_TRUNCATED;
     /// the first bytes are not those of an image
     MAGIC = HORDGULI_CAUSE_MAGIC;

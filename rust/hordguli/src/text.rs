@@ -390,7 +390,7 @@ pub fn valid_utf8(bytes: &[u8]) -> usize {
 ///
 /// # Errors
 ///
-/// [`Error::NotUtf8`], in which case [`valid_utf8`] says where; [`Error::OutOfMemory`].
+/// [`Error::NotUtf8`]: call [`valid_utf8`] to find the first invalid byte; [`Error::OutOfMemory`].
 ///
 /// # Cost
 ///

@@ -1,5 +1,5 @@
-/* Sets all levels to 0, which is wrong. Preloading it shows whether a program really uses the preloaded
- * function. */
+/* Sets all levels to 0, which is wrong. If a program's output stays the same when this library is preloaded,
+ * the program does not call the preloaded function. */
 int fribidi_get_par_embedding_levels_ex(const unsigned *, const unsigned *, int, unsigned *, signed char *);
 int fribidi_get_par_embedding_levels_ex(const unsigned *types, const unsigned *brackets, int length, unsigned *base, signed char *levels) {
     (void)types, (void)brackets;

@@ -111,8 +111,8 @@ fn write_places<W: Sink>(
     Ok(written)
 }
 
-// Encodes as many of the characters at the indices `places[from..]` as fit at the front of a buffer. Returns
-// the index of the first place not encoded, and the number of bytes written.
+// Encodes the characters at the indices `places[from..]` into a buffer, from its front, as long as they fit.
+// Returns the index of the first place not encoded, and the number of bytes written.
 fn encode_places(text: &[char], places: &[u32], from: usize, buffer: &mut [u8]) -> (usize, usize)
     requires within { AreWithin (length text.now) places.now }
     requires some { (from < length places.now) × (4 ≤ length buffer.old) }
@@ -182,8 +182,8 @@ fn write_row<W: Sink, I: Integer>(
     Ok(written)
 }
 
-// Formats as many of `numbers[from..]` as fit at the front of a buffer. Returns the index of the first number
-// not formatted, and the number of bytes written.
+// Formats `numbers[from..]` into a buffer, from its front, as long as they fit. Returns the index of the
+// first number not formatted, and the number of bytes written.
 fn encode_row<I: Integer>(numbers: &[I], from: usize, buffer: &mut [u8]) -> (usize, usize)
     requires { (from < length numbers.now) × (41 ≤ length buffer.old) }
     ensures next { (from < result.0) × (result.0 ≤ length numbers.now) }
@@ -213,8 +213,8 @@ fn encode_number<I: Integer>(number: I, is_first: bool, buffer: &mut [u8], at: u
     put_few(buffer, start, digits.format(number).as_bytes())
 }
 
-// Copies bytes to an index of a buffer, and returns the index after them. Up to four bytes are copied one by
-// one, which is faster than a general copy.
+// Copies bytes to an index of a buffer, and returns the index after them. Copies up to four bytes one by one,
+// which is faster than a general copy.
 fn put_few(buffer: &mut [u8], at: usize, bytes: &[u8]) -> usize
     requires { at + length bytes.now ≤ length buffer.old }
     ensures end { result ≡ at + length bytes.now }
@@ -390,7 +390,7 @@ fn cells_end(line: &VisualLine<'_>, start: usize, len: usize) -> usize
     end
 }
 
-// Writes a tab as spaces, or characters that are not tabs.
+// Writes a single tab as spaces, or characters that contain no tab.
 fn write_cells<W: Sink>(
     writer: &mut W,
     before: u64,

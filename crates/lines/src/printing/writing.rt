@@ -35,8 +35,8 @@ pub(crate) struct Form<'a> {
     pub(crate) print: &'a Print,
 }
 
-/// Writes all lines of a paragraph, given the levels before L1, and returns the number of bytes. Uses the
-/// front of the buffers for each line. Counts the characters.
+/// Writes all lines of a paragraph, given the levels before L1, and returns the number of bytes written. Uses
+/// the front of the buffers for each line. Counts the characters.
 pub(crate) fn write_each<W: Sink>(
     writer: &mut W,
     form: &Form<'_>,

@@ -60,7 +60,7 @@ fn pairs_of(
     Ok(pairs)
 }
 
-// Returns the bracket data of a character, if it is a bracket. Only characters of type ON count as brackets.
+// Returns the bracket data of a character, or `None` if it is not a bracket or its type is not ON.
 fn bracket_at(tables: &Tables, c: char, class: BidiClass) -> Option<Bracket> {
     match class {
         BidiClass::ON => tables.bracket(c),
@@ -86,8 +86,8 @@ fn close(
     Ok(())
 }
 
-// Returns the newest opening bracket that a closing bracket matches: how many brackets are below it on the
-// stack, and its index in the text.
+// Returns the newest opening bracket that a closing bracket matches, or `None` if there is none: the number
+// of brackets below it on the stack, and its index in the text.
 fn newest(openers: &[Opener], c: char) -> Option<(usize, usize)> {
     let mut newest = None;
     for (held, opener) in openers.iter().enumerate() {

@@ -14,8 +14,7 @@ enum Place {
     End,
 }
 
-/// Returns whether some bases directly before an index and some bases from that index on form a number
-/// together.
+/// Returns whether a number contains both the base at an index and the base before it.
 pub fn is_in_number(classes: &[LineClass], place: usize) -> bool {
     for start in 0..place {
         if begins_number(classes, start, place) {
@@ -25,7 +24,7 @@ pub fn is_in_number(classes: &[LineClass], place: usize) -> bool {
     false
 }
 
-// Returns whether a number that begins with the base at `start` contains the base at `place`.
+// Returns whether some number that begins with the base at `start` contains the base at `place`.
 fn begins_number(classes: &[LineClass], start: usize, place: usize) -> bool {
     let mut at = Place::Start;
     for i in start..classes.len() {

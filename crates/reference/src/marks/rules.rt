@@ -85,8 +85,8 @@ fn first_mark(rules: &[Rule], before: &Before, after: &Character) -> Option<Mark
     None
 }
 
-/// The form of LB25: the rule for pairs of bases, or the rule for whole numbers. For whole numbers, the
-/// variant also says whether the position is inside a number.
+/// The form of LB25: the rule for pairs of bases, or the rule for whole numbers. For whole numbers, there
+/// are two variants: the position is inside or outside a number.
 #[derive(Clone, Copy)]
 pub enum Numbers {
     Pairs,

@@ -41,7 +41,7 @@ struct Row {
     edges: &'static [&'static [usize]],
 }
 
-// A line ends at a break opportunity if the rest is too wide. The first character of a ligature has the
+// A line ends at the last break opportunity at which it fits. The first character of a ligature has the
 // ligature's advance, and its other characters have advance 0. If the ligature is wider than the width, the
 // line ends after its first character. A tab is as wide as its advance.
 static ROWS: [Row; 8] = [
@@ -269,7 +269,7 @@ fn has_edges(line: &VisualLine<'_>, edges: &[usize]) -> bool {
     all_right & (edges.last().copied() == Some(line.columns() as usize))
 }
 
-// Returns whether a paragraph has these lines and advances.
+// Returns whether a paragraph has the lines, edges and advances of its row.
 fn is_right(laid: &Laid, row: &Row) -> bool {
     let mut all_right = laid.line_starts() == row.starts && laid.line(row.edges.len()).is_none();
     for (n, edges) in row.edges.iter().enumerate() {
@@ -326,7 +326,7 @@ fn measured_spaces_are_shown_as_far_as_they_fit(rt: HostRuntime) -> Result<(), F
     Ok(())
 }
 
-// Returns whether a paragraph that was laid out at width 1 has the lines of its row after an exchange.
+// Lays out a paragraph at width 1, and returns whether it has the lines of its row after `exchanges`.
 fn is_refilled(alloc: Global, engine: &mut Engine, row: &Row) -> Result<bool, Fail> {
     let mut laid = lay_out(alloc, engine, row.text, row.advances, 1)?;
     let result = exchanges(alloc, engine, &mut laid, row);
@@ -334,7 +334,7 @@ fn is_refilled(alloc: Global, engine: &mut Engine, row: &Row) -> Result<bool, Fa
     result
 }
 
-// Exchanges the layout's lines for those at the row's width.
+// Exchanges the layout's lines for those at the row's width, and returns whether these are right.
 fn exchanges(alloc: Global, engine: &mut Engine, laid: &mut Laid, row: &Row) -> Result<bool, Fail>
     requires laid { IsLaidOut (with_advances (rules_of engine.old) laid.old.advances) laid.old }
 {
@@ -357,7 +357,7 @@ fn refill(alloc: Global, engine: &mut Engine, laid: &Laid, width: u32) -> Result
     }
 }
 
-// Returns whether the paragraph has the lines of its row after these lines overwrite the old ones.
+// Lays out a paragraph at width 1, and returns whether it has the lines of its row after `reflow`.
 fn is_reflowed(alloc: Global, engine: &mut Engine, row: &Row) -> Result<bool, Fail> {
     if row.width == 0 {
         return Err(Fail::new("width 0"));
@@ -419,7 +419,7 @@ static COLUMNS: [ColumnRow; 7] = [
     ("abcdefghijklmnop qrstuvwxyz", &[1; 27], 20),
 ];
 
-// Returns whether a line is the same with advances as with columns.
+// Returns whether a measured line equals a line that is not measured.
 fn is_same_line(measured: &VisualLine<'_>, line: &VisualLine<'_>) -> bool {
     (measured.len() == line.len())
         & (measured.chars() == line.chars())

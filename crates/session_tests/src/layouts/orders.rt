@@ -23,7 +23,7 @@ const REVERSED: Options = Options {
     ..READ
 };
 
-// Hebrew points are marks.
+// Files in which Hebrew points have class NSM.
 const POINTS: UcdFiles<'_> = UcdFiles {
     bidi_class: b"05B0..05BD;NSM\n05D0..05EA;R\n",
     ..FILES
@@ -37,8 +37,8 @@ type Row = (
     &'static [u32],
 );
 
-// Texts that are ordered with the option. The last two have a mark at another level than its base, and a mark
-// after a space at the end of the line.
+// Texts, and their visual order with the option. The last two have a mark at another level than its base, and
+// a mark after a space at the end of the line.
 static READ_ROWS: [Row; 7] = [
     (
         "\u{5D0}\u{300}\u{5D1}",
@@ -84,7 +84,7 @@ static READ_ROWS: [Row; 7] = [
     ),
 ];
 
-// The texts above that are ordered differently without the option.
+// The texts above whose visual order is different without the option, and that order.
 static REVERSED_ROWS: [Row; 5] = [
     (
         "\u{5D0}\u{300}\u{5D1}",
@@ -165,7 +165,7 @@ fn order_each(alloc: Global, engine: &mut Engine, rows: &[Row]) -> Result<bool, 
     Ok(all_right)
 }
 
-// Returns whether an engine with these files and options orders each text as its row says.
+// Returns whether an engine with these files and options gives each text the order in its row.
 fn all_ordered(
     alloc: Global,
     files: &UcdFiles<'_>,

@@ -1,5 +1,5 @@
-//! Tests that a paragraph is printed as the same bytes in three ways: line by line, by its layout, and
-//! directly without a layout.
+//! Tests that a paragraph is printed as the same bytes in three ways: each line by itself, the whole layout,
+//! and the text without a layout.
 use super::{engine, lay_out};
 use device::ToWrite;
 use lines::{Engine, Laid, PARAGRAPH_LIMIT, Print, PrintFault, WriteFault};
@@ -46,8 +46,8 @@ const DIRECTION: Print = Print {
     ..NOTHING
 };
 
-// A paragraph, a width, the print options, and the printed bytes. Shorter paragraphs follow longer
-// paragraphs, and reuse their lists.
+// A paragraph, a width, the print options, and the printed bytes. Some paragraphs are shorter than the one
+// before, whose lists the engine reuses.
 static ROWS: [(&str, u16, Print, &str); 10] = [
     ("abcdefgh ij kl", 3, PLAIN, "abc\ndef\ngh\nij\nkl\n"),
     (
@@ -106,7 +106,7 @@ fn write_paragraph(
     }
     let mut writer = ToWrite::new(taken);
     match engine.write_paragraph(alloc, text, u32::from(width), print, &mut writer) {
-        // After an allocation failure, nothing was written.
+        // Nothing was written before the allocation failure, so this can be tried again.
         Err(PrintFault::Memory) => engine.write_paragraph(
             alloc,
             text,

@@ -246,7 +246,7 @@ fn reasons<S: ParagraphStore<Kept>>(
     }
 }
 
-// Returns the position of a bracket's partner.
+// Returns the position of a bracket's partner, or `None` if there is none.
 fn partner(reasons: &CharReasons) -> Option<usize> {
     reasons.level.resolved?.step.bracket.partner
 }

@@ -20,7 +20,7 @@ struct Reference {
     width: u32,
 }
 
-// A change of a measured session. A list of advances applies to the characters from a position on.
+// A change of a measured session. `SetAdvances` has a position and the advances of the characters from there.
 #[derive(Clone, Copy, Debug)]
 enum Change<'a> {
     Insert(usize, &'a [char]),
@@ -38,7 +38,7 @@ enum Refusal {
     Other,
 }
 
-// Returns a list after `count` items from an index on are replaced.
+// Returns a copy of a list in which `count` items from an index on are replaced.
 fn spliced<T: Copy>(
     alloc: Global,
     list: &[T],
@@ -92,7 +92,7 @@ fn have_room(text: &[char], advances: &[u32]) -> bool {
 }
 
 // Returns whether a line may end after the character at an index if no break opportunity fits. CR LF needs no
-// case, since separators do not widen a line. Otherwise, only U+0300 continues a cluster in these texts.
+// case, since separators do not widen a line. Apart from that LF, only U+0300 continues a cluster here.
 fn ends_cluster(text: &[char], k: usize) -> bool {
     match (text.get(k), text.get(k.wrapping_add(1))) {
         (Some(c), Some('\u{300}')) => ('\u{2066}'..='\u{2069}').contains(c),
@@ -161,7 +161,7 @@ impl Reference {
         all & (n == session.line_count()) & (first == self.text.len())
     }
 
-    // Returns the text and the advances after a change, even if it is refused.
+    // Returns the text and the advances that a change leads to if it is not refused.
     fn after(&self, alloc: Global, change: Change<'_>) -> Result<Reference, AllocError> {
         let (pos, count, text): (usize, usize, &[char]) = match change {
             Change::Insert(pos, piece) => (pos, 0, piece),

@@ -57,7 +57,7 @@ fn parts(edit: Edit<'_>) -> (usize, usize, &str) {
     }
 }
 
-// Returns why an edit is refused, or `None` if it is accepted.
+// Returns the error with which a session on `text` must refuse an edit, or `None` if it must accept it.
 fn refusal(text: &str, edit: Edit<'_>) -> Option<EditFault> {
     let (pos, count, _) = parts(edit);
     match edit {
@@ -67,7 +67,7 @@ fn refusal(text: &str, edit: Edit<'_>) -> Option<EditFault> {
     }
 }
 
-// Returns the text after the edit.
+// Returns the text after an edit.
 fn text_after(alloc: Global, text: &str, edit: Edit<'_>) -> Result<String, AllocError> {
     let (pos, count, piece) = parts(edit);
     let mut new = String::new(alloc);
@@ -77,7 +77,7 @@ fn text_after(alloc: Global, text: &str, edit: Edit<'_>) -> Result<String, Alloc
     Ok(new)
 }
 
-// Appends `count` characters of a text, from an index on.
+// Appends up to `count` characters of `text`, starting at index `start`.
 fn push_part(new: &mut String, text: &str, start: usize, count: usize) -> Result<(), AllocError> {
     for c in text.chars().skip(start).take(count) {
         new.push(c)?;
@@ -125,7 +125,7 @@ fn touched_by<T: ParagraphStore<Kept>>(old: &Session<T>, edit: Edit<'_>) -> (Dam
     }
 }
 
-// Returns the maximum numbers by which an edit may raise the counters.
+// Returns by how much an edit may raise each counter.
 fn bounds<T: ParagraphStore<Kept>>(old: &Session<T>, edit: Edit<'_>) -> [u64; 2] {
     let (_, count, piece) = parts(edit);
     let (_, chars) = touched_by(old, edit);
@@ -158,7 +158,7 @@ fn damage_of<S: ParagraphStore<Kept>, T: ParagraphStore<Kept>>(
     }
 }
 
-// Returns whether everything outside the damage is unchanged.
+// Returns whether all lines and paragraphs outside the damage are unchanged.
 fn stays<S: ParagraphStore<Kept>, T: ParagraphStore<Kept>>(
     old: &Session<T>,
     new: &Session<S>,

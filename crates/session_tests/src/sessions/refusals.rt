@@ -1,4 +1,4 @@
-//! Tests of edits and sessions that are refused.
+//! Tests of edits that are refused, and of texts and widths for which no session opens.
 use super::{Check, Pair, check_in_tree, make, make_each, renew, session, without_engine};
 use crate::files::{FILES, engine};
 use lines::{Engine, Options};
@@ -18,7 +18,7 @@ static REFUSED: [(Edit<'_>, EditFault); 7] = [
     (Edit::SetWidth(0), EditFault::WidthOutOfRange),
 ];
 
-// Returns whether each edit is refused for this reason.
+// Returns whether each edit is refused with the error in its row.
 fn refuses<S: ParagraphStore<Kept>>(
     edited: &mut Session<S>,
     rows: &[(Edit<'_>, EditFault)],
@@ -30,7 +30,7 @@ fn refuses<S: ParagraphStore<Kept>>(
     all_right
 }
 
-// Checks that a session refuses the edits and is unchanged.
+// Checks that a session refuses each edit, and that it is unchanged afterwards.
 pub(super) fn check_refused<S: ParagraphStore<Kept> + Drop, T: ParagraphStore<Kept> + Drop>(
     rt: &impl Abort,
     pair: &mut Pair<S, T>,
@@ -107,7 +107,7 @@ fn is_full<S: ParagraphStore<Kept>>(
     Ok(is_refused & is_untouched & is_long & refuses(edited, &more))
 }
 
-// Returns whether `is_full` holds in a session of two short paragraphs, or an allocation fails.
+// Returns whether `is_full` holds in a session of two short paragraphs, or `true` if an allocation fails.
 fn becomes_full<S: ParagraphStore<Kept>>(
     alloc: Global,
     edited: &mut Session<S>,

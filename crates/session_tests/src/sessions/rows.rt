@@ -6,7 +6,7 @@ use std::process::Abort;
 use std::test::Fail;
 use store::ParagraphStore;
 
-// A text, its width, an edit, the damage, by how much the counters may rise, and the text after the edit.
+// A text, its width, an edit, its damage, by how much it may raise the counters, and the text after it.
 type Row<'a> = (&'a str, u16, Edit<'a>, [usize; 6], [u64; 2], &'a str);
 
 // Returns whether an edit returns the expected result and changes the text to the expected text.
@@ -336,7 +336,7 @@ pub(super) static EDITS: [Edit<'_>; 6] = [
 ];
 
 // Calls `run`. Does not try again after an allocation failure, so that the tests detect a mutant that reports
-// failures without a cause.
+// one although no allocation failed.
 fn run<S: ParagraphStore<Kept>>(
     edited: &mut Session<S>,
     edits: &[Edit<'_>],
