@@ -22,7 +22,8 @@ typedef struct content {
     size_t length;
 } content;
 
-/* Reads an open file to its end. */
+/* Reads an open file to its end. If this fails, returns NO_MEMORY, or UNREAD_FILE with the error in
+ * `errno`. */
 static hordguli_status read_all(int file, content *into) {
     size_t room = 0;
     for (;;) {
@@ -42,7 +43,8 @@ static hordguli_status read_all(int file, content *into) {
     }
 }
 
-/* On UNREAD_FILE, sets `*why` to the error number, since `free` and `close` may change `errno`. */
+/* Reads the file `name` in `folder`. On UNREAD_FILE, stores the error number in `*why`, since `free` and
+ * `close` may change `errno`. */
 static hordguli_status read_file(const char *folder, const char *name, content *into, int *why) {
     size_t length = strlen(folder);
     char *path = malloc(length + strlen(name) + 2);

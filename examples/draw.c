@@ -164,7 +164,7 @@ static void list_advances(void) {
     for (size_t k = 0; is_listed && k < count; k++) printf("advance %zu %u\n", start + k, advances[k]);
 }
 
-/* Measures some paragraphs. After an edit, these must be the new paragraphs in its damage. */
+/* Measures paragraphs. After an edit, call it for the new paragraphs in the edit's damage. */
 static void measure(size_t first, size_t paragraphs) {
     for (size_t k = first; k < first + paragraphs; k++) {
         hordguli_paragraph_info info;
@@ -181,7 +181,7 @@ static void measure(size_t first, size_t paragraphs) {
 
 /* ---- Drawing ---- */
 
-/* Shapes some characters, adds their glyphs at `x`, and returns the right edge of the last one. */
+/* Shapes some characters, and appends their glyphs from `x` on. Returns the right edge of the last glyph. */
 static long shape_part(size_t from, size_t to, uint32_t level, long x) {
     unsigned found;
     hb_buffer_t *buffer = shaped(from, to, level);

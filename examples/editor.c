@@ -88,7 +88,8 @@ static void go(size_t line, size_t column) {
     succeeds(hordguli_edge_at(&session, line, column > left ? column - left : 0, &caret));
 }
 
-/* Moves the caret to the left or right, from the left or right end of a line to the line before or after. */
+/* Moves the caret to the left or right. From the left end of a line, it goes to the line before, and from the
+ * right end to the line after. */
 static void sideways(uint32_t direction) {
     size_t line = caret_place().line;
     uint32_t moved = 1;
@@ -229,8 +230,8 @@ static int is_after_line(size_t pos) {
            last == 0x2029;
 }
 
-/* Replaces characters, and puts the caret at the end of the new text: on `side` of it or, if a line or
- * paragraph starts there, before the character that follows. */
+/* Replaces characters, and puts the caret at the position after the new text, with side `side`. If a line or
+ * paragraph starts there, the side is BEFORE. */
 static void replace(hordguli_cluster old, const char *text, size_t length, uint32_t side) {
     hordguli_changed changed;
     size_t count;

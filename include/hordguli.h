@@ -21,8 +21,8 @@
  * UNITS
  *
  * A character is a Unicode scalar value. Positions and lengths are in characters. Lengths of `char` arrays are in
- * bytes. Positions, lines, paragraphs and columns start at 0. Input and output text is UTF-8, without a NUL terminator.
- * U+0000 is an ordinary character.
+ * bytes. Positions, lines, paragraphs and columns are numbered from 0. Text in `char` arrays is UTF-8,
+ * without a NUL terminator. U+0000 is an ordinary character.
  *
  * PARAGRAPHS AND LINES
  *
@@ -32,7 +32,7 @@
  * A line ends at the end of its paragraph, after U+000B, U+000C or U+2028, or at a break opportunity
  * (UAX #14). If none of these fits the width, the line ends inside a word, at the last grapheme cluster
  * boundary that fits. If no such boundary fits either, the line ends at the first boundary, and is wider than
- * the width. The characters after this boundary are on the next line, even if there is only a separator: at
+ * the width. The characters after this boundary go to the next line, even if only a separator is left: at
  * width 5, an emoji family of 6 columns and U+000A are two lines.
  *
  * The tail of a line is all U+0020, U+000A to U+000D, U+0085, U+2028 and U+2029 at its end. The tail is not shown. The
@@ -51,8 +51,8 @@
  * A measured session (`hordguli_session_open_measured`) lays out text in any font. Each character has an advance, in a
  * unit that the caller chooses, such as 1/64 pixel. The width of the session, and all columns, spans and widths of its
  * lines, are in this unit. A measured session differs from other sessions as follows:
- *   - An inserted character has advance 0. All other characters keep their advances, even if paragraphs are joined or
- *     split. `hordguli_set_advances` sets them.
+ *   - An inserted character has advance 0 until `hordguli_set_advances` sets it. All other characters keep
+ *     their advances, even if an edit joins or splits paragraphs.
  *   - The advances of a paragraph add up to at most 4,294,967,295. A call that would exceed this sum returns
  *     PARAGRAPH_TOO_LONG.
  *   - With HORDGULI_TAB_WIDTH, a tab moves to the next multiple of its own advance, or stays where it is if its advance
@@ -92,8 +92,8 @@
  *     leave it unchanged, and store the required size. So a call with NULL and capacity 0 requests the size.
  *   - `hordguli_line`, `hordguli_paragraph`, `hordguli_row` and `hordguli_decode` write several arrays. They
  *     skip arrays that are NULL. If any other array is too small, they return NO_ROOM. If all arrays are
- *     NULL, the call succeeds with any capacity. In both cases, `hordguli_line` and `hordguli_paragraph`
- *     store the size in `*info`, and `hordguli_decode` in `*count`.
+ *     NULL, the call succeeds with any capacity. On success and on NO_ROOM, `hordguli_line` and
+ *     `hordguli_paragraph` store the size in `*info`, and `hordguli_decode` stores it in `*count`.
  *   - `hordguli_levels`, `hordguli_marks`, `hordguli_reasons` and `hordguli_break_reasons` need an array of
  *     `count` elements. NULL returns NO_ROOM, unless `count` is 0.
  *
@@ -121,8 +121,8 @@
  *     and another may edit and close it. No call depends on the thread that makes it: the library has no
  *     global or thread-local variables.
  *   - Do not call the library from a signal handler that can interrupt the library or malloc.
- *   - After `fork`, the child has its own handles. The child must not use a handle that another thread was using during
- *     the fork.
+ *   - After `fork`, the child has its own copies of all handles. The child must not use a handle that another
+ *     thread was using during the fork.
  *
  * MEMORY
  *
@@ -162,7 +162,8 @@ typedef int32_t hordguli_status;
 #define HORDGULI_PARAGRAPH_TOO_LONG 4
 /* Out of memory. */
 #define HORDGULI_NO_MEMORY 5
-/* A table file or an image is malformed. The parameter `fault` receives the line and the cause. */
+/* A table file or an image is malformed. `*fault` receives the file (HORDGULI_IMAGE for an image), the line
+ * and the cause. */
 #define HORDGULI_TABLE_FAULT 6
 /* The text is not valid UTF-8. Call `hordguli_valid_utf8` to find the first invalid byte. */
 #define HORDGULI_NOT_UTF8 7
@@ -180,12 +181,12 @@ typedef int32_t hordguli_status;
 #define HORDGULI_NULL 13
 /* Arrays, output parameters or handles overlap. */
 #define HORDGULI_OVERLAP 14
-/* A table file cannot be read. The parameter `fault` receives the file's index, and `errno` the error. */
+/* A table file cannot be read. `*fault` receives the file's index, and `errno` is set to the error. */
 #define HORDGULI_UNREAD_FILE 15
 /* The session is not measured. Since 0.6. */
 #define HORDGULI_NOT_MEASURED 16
 
-/* Returns a short English description of a status, or "unknown status". */
+/* Returns a short English description of a status, or "unknown status" for any other number. */
 const char *hordguli_status_text(hordguli_status status);
 
 /* ---- Version ---- */
@@ -217,9 +218,9 @@ const char *hordguli_width_unicode_version(void);
  * directions are combined, calls fail with UNKNOWN_OPTION. Without a direction, HORDGULI_WEAK_LTR applies.
  * `hordguli_row`, `hordguli_marks` and `hordguli_break_reasons` accept no direction.
  *
- * Bits 0 and 1 encode the direction. To detect combined directions, the constants also set bit 24 if bit 0 is
- * 0, and bit 25 if bit 1 is 0. Bits 24 and 25 may be left out, so the numbers 0 to 3 are directions too. Bits
- * 16 to 23 are reserved. */
+ * Bits 0 and 1 encode the direction. So that combined directions can be detected, the constants also set bit
+ * 24 if bit 0 is 0, and bit 25 if bit 1 is 0. Bits 24 and 25 may be left out, so the numbers 0 to 3 are
+ * directions too. Bits 16 to 23 are reserved. */
 
 /* The direction of a paragraph's first strong character, or LTR if there is none. */
 #define HORDGULI_WEAK_LTR UINT32_C(0x3000000)
@@ -235,8 +236,9 @@ const char *hordguli_width_unicode_version(void);
  * draws a mark onto the cell to its left. For example, RTL text `A mark B` is written as `B mark A` by default, so such
  * a terminal draws the mark on B. With this option, it is written as `B A mark`. */
 #define HORDGULI_REORDER_NSM UINT32_C(8)
-/* Does not break inside a number, such as `$(1,200)`. This replaces LB25 (UAX #14): there is no break inside a match of
- * `(PR|PO)? (OP|HY)? NU (NU|SY|IS)* (CL|CP)? (PR|PO)?`. It changes nothing with tables of Unicode 17.0. */
+/* Does not break inside a number, such as `$(1,200)`. This option replaces LB25 (UAX #14): there is no break
+ * inside a match of `(PR|PO)? (OP|HY)? NU (NU|SY|IS)* (CL|CP)? (PR|PO)?`. The option has no effect with
+ * tables of Unicode 17.0. */
 #define HORDGULI_WHOLE_NUMBERS UINT32_C(16)
 /* Keeps adjacent characters of a grapheme cluster at the same odd level in logical order. By default they are
  * reversed, as is all RTL text. Use this option if the terminal draws each cluster, such as an emoji family,
@@ -258,9 +260,9 @@ const char *hordguli_width_unicode_version(void);
  * MEASURED TEXT). Since 0.6. */
 #define HORDGULI_TAB_WIDTH(n) ((uint32_t)(n) > 255 ? UINT32_C(1) << 16 : (uint32_t)(n) << 8)
 /* Ends paragraphs only at LF, CR and CRLF, where LSP, Git and most editors end lines. U+001C to U+001E,
- * U+0085 and U+2029 have bidi class S (segment separator) if the tables give them class B. U+0085 and U+2029
- * still end lines, not paragraphs, as do VT, FF and U+2028. Each function with `options` or `direction`
- * accepts this option. It does not change the results of `hordguli_row`, `hordguli_marks` or
+ * U+0085 and U+2029 are treated as bidi class S (segment separator) if they have class B in the tables.
+ * U+0085 and U+2029 still end lines, not paragraphs, as do VT, FF and U+2028. Each function with `options` or
+ * `direction` accepts this option. It does not change the results of `hordguli_row`, `hordguli_marks` or
  * `hordguli_break_reasons`. Since 0.6. */
 #define HORDGULI_LINE_SEPARATORS UINT32_C(0x4000000)
 
@@ -346,8 +348,8 @@ typedef struct hordguli_bytes {
 #define HORDGULI_CAUSE_VALUE 5         /* a value that the file does not allow */
 #define HORDGULI_CAUSE_NAMED_BEFORE 6  /* an earlier line names one of its characters */
 
-/* Why bytes are not an image. If several causes apply, the first in this order is reported. But if the image
- * has a whole header, TRUNCATED comes after VERSION. */
+/* Why bytes are not an image. If several causes apply, the first in this order is reported. But if the header
+ * is complete, TRUNCATED comes after VERSION. */
 #define HORDGULI_CAUSE_TRUNCATED 8     /* fewer bytes than a header has, or than its counts state */
 #define HORDGULI_CAUSE_MAGIC 9         /* the first bytes are not those of an image */
 #define HORDGULI_CAUSE_FORMAT 10       /* another version of the format */
@@ -368,13 +370,13 @@ typedef struct hordguli_table_fault {
     size_t cause;  /* one of the causes; 0 if the file cannot be read */
 } hordguli_table_fault;
 
-/* Opens the tables of Unicode 15.0 that the library contains. Reads no file.
+/* Opens the built-in tables of Unicode 15.0. Reads no file.
  * Errors: NULL, ALREADY_OPEN, NO_MEMORY.
  * Cost: as for `hordguli_tables_open_image`.
  * Since: 0.6. */
 hordguli_status hordguli_tables_open_builtin(hordguli_tables *tables);
 
-/* Opens the tables of `version` that the library contains, such as those of HORDGULI_UNICODE_17_0. Reads no file.
+/* Opens the built-in tables of Unicode `version`, such as HORDGULI_UNICODE_17_0. Reads no file.
  * Errors: NULL, UNKNOWN_OPTION (another version), ALREADY_OPEN, NO_MEMORY.
  * Cost: as for `hordguli_tables_open_image`.
  * Since: 0.6. */
@@ -440,9 +442,9 @@ void hordguli_tables_close(hordguli_tables *tables);
  *                              sizeof buffer, buffer, &written);
  *
  * The handle keeps the memory that a call used. A later call that needs no more memory allocates nothing,
- * unless only one of the two calls has HORDGULI_LINE_SEPARATORS. The handle keeps at most 5 MB: memory for a
- * text of more than 65,536 bytes, or for as many bytes of lines, is freed. `hordguli_tables_close` frees what
- * is kept. Threads that call this function at the same time each need their own tables handle.
+ * unless only one of the two calls has HORDGULI_LINE_SEPARATORS. The handle keeps at most 5 MB: memory for
+ * more than 65,536 bytes of text, or of lines, is freed. `hordguli_tables_close` frees what is kept. Threads
+ * that call this function at the same time each need their own tables handle.
  *
  * On NOT_UTF8, call `hordguli_valid_utf8` to find the first invalid byte. NO_MEMORY comes before NO_ROOM,
  * because the lines are collected in memory before their size is known.
@@ -461,8 +463,8 @@ hordguli_status hordguli_count_utf8(const char *bytes, size_t length, size_t *co
 
 /* Stores in `*valid` the length of the longest prefix of `bytes` that is valid UTF-8: `length` if all bytes
  * are valid, else the index of the first invalid byte. A byte is invalid if it belongs to no complete
- * character, even at the end of `bytes`. After another function has returned NOT_UTF8, the text before this
- * index is valid.
+ * character. So an incomplete character at the end of `bytes` is invalid. After another function has returned
+ * NOT_UTF8, the text before this index is valid.
  * Errors: NULL, OVERLAP.
  * Cost: O(length).
  * Since: 0.6. */
@@ -505,7 +507,7 @@ typedef struct hordguli_damage {
 
 /* Opens a session on a text. `width` is in columns. The session shares the tables, so their handle may be
  * closed before the session. On NOT_UTF8, call `hordguli_valid_utf8` to find the first invalid byte. If 2^63
- * sessions already share the tables, NO_MEMORY is returned, and comes directly after CLOSED.
+ * sessions already share the tables, NO_MEMORY is returned. This is checked directly after CLOSED.
  * Errors: NULL, OVERLAP, WIDTH_OUT_OF_RANGE (above 65,535), UNKNOWN_OPTION, NOT_UTF8, ALREADY_OPEN (the session),
  * CLOSED (the tables), WIDTH_OUT_OF_RANGE (0), TEXT_TOO_LONG, PARAGRAPH_TOO_LONG, NO_MEMORY.
  * Cost: time and memory proportional to `length`. */
@@ -568,12 +570,12 @@ typedef struct hordguli_changed {
 } hordguli_changed;
 
 /* Stores in `*changed` which lines changed in the last successful call that edited the text, set the width or
- * set advances. These are the lines of the call's damage, which consists of whole paragraphs, except the
- * unchanged lines at its start and then those at its end. An unchanged line has the same characters, levels,
- * maps, columns, advances, base level and length as before, and is the first line of its paragraph if and
- * only if it was before. The padding, which depends on the width, is not compared: RTL lines move when the
- * width changes, so redraw all of them. After the session is opened, all lines count as changed. A failed
- * call does not change the result.
+ * set advances. The call's damage consists of whole paragraphs. The changed lines are those of the damage,
+ * without the unchanged lines at its start and then those at its end. An unchanged line has the same
+ * characters, levels, maps, columns, advances, base level and length as before, and is the first line of its
+ * paragraph if and only if it was before. The padding, which depends on the width, is not compared: RTL lines
+ * move when the width changes, so redraw all of them. After the session is opened, all lines count as
+ * changed. A failed call does not change the result.
  * Errors: NULL, OVERLAP, CLOSED.
  * Cost: O(1).
  * Since: 0.6. */
@@ -684,8 +686,8 @@ hordguli_status hordguli_runs(hordguli_session *session, size_t line, size_t cap
 
 /* Writes `count` lines, starting with line `first`, to a buffer, as UTF-8. NULL with capacity 0 returns NO_ROOM if
  * there is anything to write (see BUFFERS). `print` selects what is written for each line, in the order VISUAL,
- * BASEDIR, LTOV, VTOL, LEVELS. Each of these items ends in U+000A. Numbers are decimal, separated by spaces. For
- * example, to write the lines that an edit replaced:
+ * BASEDIR, LTOV, VTOL, LEVELS. Each of these items ends with U+000A. Numbers are decimal, separated by
+ * spaces. For example, to write the lines that an edit replaced:
  *
  *     status = hordguli_lines_utf8(&session, damage.first_line, damage.new_lines,
  *                                  HORDGULI_PRINT_DEFAULT, capacity, buffer, &length);
@@ -704,8 +706,8 @@ hordguli_status hordguli_text(hordguli_session *session, size_t pos, size_t coun
                               size_t *length);
 
 /* Stores `count` characters, starting at `pos`, in an array of `capacity` elements, in logical order and not mirrored,
- * as a shaper needs them. `*length` is `count`. NULL with capacity 0 returns NO_ROOM, unless `count` is 0 (see
- * BUFFERS).
+ * as a shaper needs them. Stores `count` in `*length`. NULL with capacity 0 returns NO_ROOM, unless `count`
+ * is 0 (see BUFFERS).
  * Errors: NULL, OVERLAP, CLOSED, OUT_OF_RANGE, NO_ROOM.
  * Cost: O(log n) per paragraph, plus O(count).
  * Since: 0.6. */
@@ -724,15 +726,15 @@ hordguli_status hordguli_utf8_length(hordguli_session *session, size_t pos, size
  * Since: 0.6. */
 hordguli_status hordguli_byte_of(hordguli_session *session, size_t pos, size_t *byte);
 
-/* Stores in `*unit` the length of the text before `pos` in UTF-16 code units, the unit of the Language Server Protocol.
- * Fails with OUT_OF_RANGE if `pos` is past the end.
+/* Stores in `*unit` the length, in UTF-16 code units, of the text before `pos`. This is the default unit of
+ * the Language Server Protocol. Fails with OUT_OF_RANGE if `pos` is past the end.
  * Errors: NULL, OVERLAP, CLOSED, OUT_OF_RANGE.
  * Cost: O(log n), plus O(length of the paragraph) if the paragraph has a character above U+FFFF.
  * Since: 0.6. */
 hordguli_status hordguli_utf16_of(hordguli_session *session, size_t pos, size_t *unit);
 
-/* The position `pos` of the character that contains a byte or code unit, and the number `rest` of the
- * character's bytes or code units before that one. */
+/* The position `pos` of the character that contains a given byte or code unit, and the number `rest` of the
+ * character's bytes or code units before the given one. */
 typedef struct hordguli_position {
     size_t pos;
     size_t rest;
@@ -890,8 +892,8 @@ typedef struct hordguli_word {
     uint32_t zero;
 } hordguli_word;
 
-/* Stores in `*word` the word that contains the character at `pos`: the segment of the paragraph between the
- * last word boundary (UAX #29) at or before `pos` and the next one. Fails with OUT_OF_RANGE if `pos` is the
+/* Stores in `*word` the word that contains the character at `pos`: the segment of the paragraph from the last
+ * word boundary (UAX #29) at or before `pos` to the next boundary. Fails with OUT_OF_RANGE if `pos` is the
  * end of the text.
  *
  * The next word starts at `word.end`, and the previous word contains the character at `word.start - 1`.
@@ -949,11 +951,11 @@ typedef struct hordguli_edge {
  *   - At a character that is not shown, and for the edge before the end of the text: as in
  *     `hordguli_caret_at`.
  *
- * `level` is the level of that character, or the base level if the character is not shown or there is none.
- * In the line where a new paragraph would start, an odd `level` means that the caret is at the right edge of
- * the screen. A block cursor covers the cell at `column` if `level` is even, else the cell to the left of
- * `column`. If there is no such cell, it covers the nearest one. Fails with OUT_OF_RANGE if the position is
- * past the end of the text, and for the edge after position 0.
+ * `level` is the level of the edge's character, or the base level if that character is not shown or does not
+ * exist. In the line where a new paragraph would start, an odd `level` means that the caret is at the right
+ * edge of the screen. A block cursor covers the cell at `column` if `level` is even, else the cell to the
+ * left of `column`. If there is no such cell, it covers the nearest one. Fails with OUT_OF_RANGE if the
+ * position is past the end of the text, and for the edge after position 0.
  *
  * Errors: NULL, OVERLAP, UNKNOWN_OPTION, CLOSED, OUT_OF_RANGE, NO_MEMORY.
  * Cost: as for `hordguli_cluster_at`, plus O(length of the line).
@@ -961,10 +963,10 @@ typedef struct hordguli_edge {
 hordguli_status hordguli_edge_caret(hordguli_session *session, hordguli_edge edge, hordguli_caret *caret);
 
 /* Moves a caret to the nearest boundary to the left or right on its line. Stores the edge there in `*next`,
- * and 1 in `*moved`. The stored edge is an edge of the caret unit that was passed. At the end of the line,
- * stores 0 in `*moved`, and leaves `*next` unchanged. The caller then calls `hordguli_edge_at` for another
- * line, with column 0 for its left end, or SIZE_MAX for its right end. In a left-to-right document, the key
- * Right leads to the left end of the line below, and Left to the right end of the line above:
+ * and 1 in `*moved`. The stored edge is an edge of the caret unit that was passed. If there is no such
+ * boundary, stores 0 in `*moved`, and leaves `*next` unchanged. The caller then calls `hordguli_edge_at` for
+ * another line, with column 0 for its left end, or SIZE_MAX for its right end. In a left-to-right document,
+ * the key Right leads to the left end of the line below, and Left to the right end of the line above:
  *
  *     // Right
  *     status = hordguli_step(&session, caret, HORDGULI_RIGHT, &caret, &moved);
@@ -1060,8 +1062,9 @@ typedef struct hordguli_script_run {
     uint32_t zero;  /* always 0 */
 } hordguli_script_run;
 
-/* Stores the script runs of a text of `count` characters (UAX #24), for fonts and shapers: the longest ranges of
- * characters of one script. To shape a row, split its directional runs (`hordguli_row_runs`) where a script run ends.
+/* Stores the script runs of a text of `count` characters (UAX #24), for choosing fonts and for shaping: the
+ * longest ranges of characters of one script. To shape a row, split its directional runs
+ * (`hordguli_row_runs`) where a script run ends.
  *   - A character has the script of its property Script, in the Unicode version that `hordguli_width_unicode_version`
  *     returns. A private-use or unassigned character has the script Unknown (`Zzzz`).
  *   - If the property is Common or Inherited, as for a space, a digit or a mark, the character has the script of the
@@ -1140,7 +1143,8 @@ hordguli_status hordguli_row_runs(hordguli_tables *tables, uint32_t base, size_t
 hordguli_status hordguli_base(hordguli_tables *tables, uint32_t direction, const uint32_t *characters, size_t count,
                               uint32_t *base);
 
-/* Stores in `levels` the level of each character before L1. NULL returns NO_ROOM, unless `count` is 0 (see BUFFERS).
+/* Stores in `levels` the level of each character, before L1 is applied. NULL returns NO_ROOM, unless `count`
+ * is 0 (see BUFFERS).
  * Errors: NULL, OVERLAP, UNKNOWN_OPTION, CLOSED, NO_ROOM, NOT_A_CHARACTER, NO_MEMORY.
  * Cost: time and memory proportional to `count`. */
 hordguli_status hordguli_levels(hordguli_tables *tables, uint32_t direction, const uint32_t *characters, size_t count,
@@ -1169,8 +1173,8 @@ hordguli_status hordguli_marks(hordguli_tables *tables, uint32_t options, const 
 
 /* How the algorithm arrives at the level of a character (UAX #9). A position that does not exist is
  * UINT32_MAX, and a class that does not exist is 0xFF. A character that X9 removes has no `sequence`, `sos`
- * or `eos`, no classes after the original one, and no case. Its `left` is the last character before it that
- * X9 keeps, which determines its level. */
+ * or `eos`, no classes after the original one, and no bracket case. Its `left` is the last character before
+ * it that X9 keeps, which determines its level. */
 typedef struct hordguli_reason {
     uint32_t opener;         /* innermost embedding, override or isolate around it that does not overflow */
     uint32_t matching;       /* matching PDI of an isolate initiator, or matching initiator of a PDI */
@@ -1198,8 +1202,8 @@ typedef struct hordguli_reason {
 hordguli_status hordguli_reasons(hordguli_tables *tables, uint32_t direction, const uint32_t *characters, size_t count,
                                  size_t capacity, hordguli_reason *reasons);
 
-/* The rule that decides a break mark (UAX #14), and what the rule reads. A base is a character and what LB9 attaches to
- * it. A position that does not exist is UINT32_MAX. */
+/* The rule that decides a break mark (UAX #14), and the bases and classes to which it is applied. A base is a
+ * character and what LB9 attaches to it. A position that does not exist is UINT32_MAX. */
 typedef struct hordguli_break_reason {
     uint32_t base;           /* start of the base before the mark */
     uint32_t behind_spaces;  /* start of the last such base that is not a space, for rules with `SP*` */

@@ -9,8 +9,8 @@ import re, sys
 
 WIDTH = 100
 SCALARS = {"char": "c_char", "void": "c_void", "size_t": "usize", "int32_t": "i32", "uint8_t": "u8", "uint32_t": "u32", "uint64_t": "u64"}
-# The types of constants: that of the first pattern that matches the name. It is the type of the fields and
-# parameters for which the constant is a value.
+# A constant has the type of the first pattern that matches its name, or u32 if none does. This is the type of
+# the fields and parameters for which the constant is a value.
 TYPES = [
     (r"VERSION_\w+|UNICODE_\w+", "u32"),
     (r"BREAK_\w+|BRACKET_(NONE|OPEN|CLOSE|CASE_\w+)|NEUTRAL_\w+|BIDI_CLASS_\w+|LINE_CLASS_\w+", "u8"),

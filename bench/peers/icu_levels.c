@@ -26,9 +26,9 @@ static UBool is_blank(UChar32 c) {
     }
 }
 
-/* ICU's levels of a whole paragraph are those after L1 before separators and at the paragraph's end. ubidi_setLine
- * changes the levels of a line if all are even: the levels of a number after Hebrew become 0. So this function itself
- * applies L1 at the end of a line. */
+/* For a whole paragraph, ICU applies L1 only before separators and at the paragraph's end. ubidi_setLine
+ * changes the levels of a line if all are even: the levels of a number after Hebrew become 0. So this
+ * function itself applies L1 at the end of a line. */
 static void put_line(int32_t from, int32_t to) {
     UErrorCode status = U_ZERO_ERROR;
     int32_t shown = shown_end(from, to), reset = shown;

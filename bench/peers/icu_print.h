@@ -43,7 +43,7 @@ static void put_line(int32_t from, int32_t to) {
     put('\n');
 }
 
-/* Prints the lines of a paragraph, which is the first `length` code units of `from`. */
+/* Prints the lines of a paragraph: the first `length` code units of `from`. */
 static void print_paragraph(const UChar *from, int32_t length) {
     UErrorCode status = U_ZERO_ERROR;
     text = from;

@@ -1,9 +1,10 @@
-/* Measures laying out one short string at a time, UTF-8 in and UTF-8 out, at 80 columns: with hordguli_layout, with a
- * session that is edited, with ICU's ubidi and ubrk (icu_print.h), with ICU's ubidi alone, which breaks no lines, and
- * with FriBidi's log2vis. Prints nanoseconds per string, the minimum of several alternating runs, and their ratios.
- * Also prints how many strings have the same lines with hordguli_layout and ICU. With PEER, only calls that library (0
- * for hordguli_layout, 2 for ICU) for all strings of a kind, ROUNDS times, so that another program can count its
- * instructions. Usage: strings FOLDER [PEER CHARACTERS KIND ROUNDS], where FOLDER has the table files. */
+/* Measures laying out one short string at a time, at 80 columns and with UTF-8 as input and output. Compares
+ * hordguli_layout, a session that is edited, ICU's ubidi and ubrk (icu_print.h), ICU's ubidi alone, which
+ * breaks no lines, and FriBidi's log2vis. Prints nanoseconds per string, the minimum of several alternating
+ * runs, and their ratios. Also prints how many strings have the same lines with hordguli_layout and ICU.
+ * With PEER, only calls that library (0 for hordguli_layout, 2 for ICU) for all strings of a kind, ROUNDS
+ * times, so that another program can count its instructions. Usage: strings FOLDER [PEER CHARACTERS KIND
+ * ROUNDS], where FOLDER has the table files. */
 #define _POSIX_C_SOURCE 200809L
 #include "icu_print.h"
 #include "strings.h"

@@ -1,15 +1,15 @@
 /* The functions of the proved crate hordguli_fribidi, on which fribidi.c is built.
  *
  * tests/c/exports checks that the parameters have the same names as in the crate. An array is a pointer and a
- * length. The pointer is never NULL and is aligned for its type, even if the length is 0. An array that is
- * written does not overlap another array. */
+ * length. The pointer is never NULL and is aligned for its type, even if the length is 0. An output array
+ * must not overlap any other array. */
 #ifndef HORDGULI_FRIBIDI_CORE_H
 #define HORDGULI_FRIBIDI_CORE_H
 
 #include <stddef.h>
 #include <stdint.h>
 
-/* Look up single characters in the tables that tools/generate_fribidi_tables writes. */
+/* Functions that look up characters in the tables that tools/generate_fribidi_tables writes. */
 uint32_t hordguli_fribidi_core_type(uint32_t c, const uint8_t index[static 4352], const uint32_t pages[static 65536]);
 void hordguli_fribidi_core_types(const uint8_t index[static 4352], const uint32_t pages[static 65536],
                                  const uint32_t *characters, size_t characters_length, uint32_t *types,

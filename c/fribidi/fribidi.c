@@ -1,6 +1,6 @@
-/* FriBidi's functions on types, levels and lines, on top of the proved crate hordguli_fribidi and the tables
- * that tools/generate_fribidi_tables writes. This file checks what the crate cannot: NULL pointers and
- * negative lengths. The functions follow FriBidi's header and manual. docs/fribidi-compat.md lists the
+/* Implements FriBidi's functions on types, levels and lines on top of the proved crate hordguli_fribidi and
+ * the tables that tools/generate_fribidi_tables writes. This file checks what the crate cannot: NULL pointers
+ * and negative lengths. The functions follow FriBidi's header and manual. docs/fribidi-compat.md lists the
  * differences. */
 #include "core.h"
 #include "tables.h"
@@ -19,7 +19,8 @@ typedef signed char level_number;
 #define BRACKETS sign_index, sign_pages, brackets
 #define MIRRORS sign_index, sign_pages, mirrors
 
-/* The pointer and length of an array. A NULL pointer stands for an empty array. */
+/* GIVEN and ROOM expand to the pointer and the length of an array. A NULL pointer stands for an empty
+ * array. */
 static const uint32_t none[1];
 static uint32_t nothing[1];
 #define GIVEN(pointer, length) ((pointer) == NULL ? none : (pointer)), ((pointer) == NULL ? 0 : (length))

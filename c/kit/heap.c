@@ -7,7 +7,8 @@
 #include <stdint.h>
 #include <stdlib.h>
 
-/* Whether a block was allocated, and its address `p`. If not, `p` is not NULL, and nothing is owned there. */
+/* The result of an allocation. If `ok`, `p` is the address of a block. Otherwise `p` is not NULL, but nothing
+ * is owned there. */
 typedef struct tried {
     bool ok;
     uint8_t *p;
@@ -17,7 +18,7 @@ tried rattle_alloc(size_t n, size_t a);
 tried rattle_realloc(uint8_t *p, size_t kept, size_t n, size_t a);
 void rattle_dealloc(uint8_t *p);
 
-/* Its address stands for a block that was not allocated. */
+/* Its address is the `p` of each failed allocation. */
 static uint8_t nothing;
 
 static tried block_or_nothing(uint8_t *p) {
@@ -42,7 +43,7 @@ static size_t at_least_one(size_t n, size_t a) { return n == 0 ? a : n; }
  * The contract does not say when the allocation fails. */
 tried rattle_alloc(size_t n, size_t a) { return block_or_nothing(malloc(at_least_one(n, a))); }
 
-/* Tries to resize a block of rattle_alloc or rattle_realloc to n bytes.
+/* Tries to resize a block from rattle_alloc or rattle_realloc to n bytes.
  *
  *     requires sizes    kept is the size of the elements to keep, which are the first of an array;
  *                       n is the size of the new array, which has at least these elements, and n < 2^63;

@@ -1,7 +1,7 @@
 /* Stands in for the kit's rattle_arg, rattle_env, rattle_env_at, rattle_errno and rattle_set_errno on ARM64: the kit
  * has them for x86-64 only. Proved code relies on the contracts below, which are those of the kit's crate `os`
  * (`src/c.rt` there). Nothing proves that these functions meet them. tests/arm64/kit runs the same checks on them and
- * on the kit's functions for x86-64. Only the command links them. */
+ * on the kit's functions for x86-64. The libraries do not link this file. */
 #include <errno.h>
 #include <stddef.h>
 #include <stdint.h>
@@ -34,7 +34,7 @@ static ptrdiff_t copied(const char *text, uint8_t *buf, size_t length) {
     return (ptrdiff_t)at;
 }
 
-/* Puts argument i at the start of buf, without the NUL that ends it. Argument 0 is the command's name.
+/* Copies argument i to the start of buf, without its final NUL. Argument 0 is the command's name.
  *
  *     returns    its length; -1 if there is no such argument; -2 if it does not fit, and then buf is full
  *
@@ -43,7 +43,7 @@ ptrdiff_t rattle_arg(size_t i, uint8_t *buf, size_t length) {
     return copied(i < count ? words[i] : NULL, buf, length);
 }
 
-/* Puts the value of an environment variable at the start of buf, without the NUL that ends it.
+/* Copies the value of an environment variable to the start of buf, without its final NUL.
  *
  *     requires ended    name has 4,096 bytes, and the last one is NUL
  *     returns           the value's length; -1 if there is no such variable; -2 if it does not fit, and then buf is full
@@ -53,7 +53,7 @@ ptrdiff_t rattle_env(const uint8_t *name, uint8_t *buf, size_t length) {
     return copied(getenv((const char *)name), buf, length);
 }
 
-/* Puts entry i of the environment, such as NAME=value, at the start of buf, without the NUL that ends it.
+/* Copies entry i of the environment, such as NAME=value, to the start of buf, without its final NUL.
  *
  *     returns    its length; -1 if there is no such entry; -2 if it does not fit, and then buf is full
  *

@@ -75,7 +75,7 @@ _EXCEPTIONS: dict[int, type[Exception]] = {
     CLOSED: ClosedError,
     NOT_MEASURED: NotMeasuredError,
 }
-# The words that messages use for the first parameter after the handle, by the parameter's name in C.
+# What messages call the first parameter after the handle, by the parameter's name in C.
 _NOUNS = {"pos": "position", "line": "line", "paragraph": "paragraph", "byte": "byte", "unit": "UTF-16 code unit"}
 
 

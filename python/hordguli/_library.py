@@ -23,8 +23,8 @@ def _load() -> ctypes.CDLL:
 
 
 library = _load()
-# For `display`: these functions do not check or convert arguments, and so need half the time. Callers must
-# pass sizes and pointers as ctypes objects.
+# For `display`: functions that neither check nor convert arguments, and so need half the time of those in
+# `library`. Callers must pass sizes and pointers as ctypes objects.
 quick_base, quick_levels, quick_row = (library["hordguli_" + name] for name in ("base", "levels", "row"))
 VERSION: str = library.hordguli_version().decode()
 UNICODE_VERSION: str = library.hordguli_unicode_version().decode()

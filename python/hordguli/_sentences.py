@@ -180,8 +180,8 @@ _NOUNS = {
     "AK": "aksara", "AP": "aksara", "AS": "aksara", "VF": "virama", "VI": "virama",
 }  # fmt: skip
 # What each rule says. {before} and {after} name the bases before and after the mark, {both} names both of them,
-# and {behind} names the nearest base that is not a space. Of two sentences, the first
-# is used if there is no break, the second if there is one.
+# and {behind} names the last base before the mark other than spaces. Of two sentences, the first is used if
+# there is no break, the second if there is one.
 _RULES = {
     "LB3": "the line ends with the paragraph",
     "LB4": "the line ends after {before}",

@@ -55,7 +55,8 @@ class _Owned:
 class Library:
     """HarfBuzz's library, through `ctypes`."""
 
-    # The functions that return pointers, which `ctypes` must know. The results of all others have 32 bits.
+    # The functions that return pointers: `ctypes` must know their result types. All other results have 32
+    # bits.
     _POINTERS = {
         "hb_blob_create_from_file": c_void_p,
         "hb_face_create": c_void_p,

@@ -83,7 +83,8 @@ class Measure:
         scale = round(size * UNITS)
         self._shaper = _Shaper()
         self._fonts = [self._open(os.fspath(file), scale) for file in files]
-        # What is known about each character. For each font and script, characters that do not end a part.
+        # The fonts, script and category of each character looked up so far. For each font and script,
+        # characters that do not end a part.
         self._known: dict[str, tuple[list[int], Optional[str], str]] = {}
         self._staying: dict[tuple[int, str], str] = {}
         # The advances of recent level runs and parts. They are kept because an edit leaves most of a

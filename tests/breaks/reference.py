@@ -235,7 +235,7 @@ def parsed(expression):
     return tree
 
 
-# A letter for each character that the rules can distinguish.
+# A letter for each character that the rules can distinguish, for matching with regular expressions.
 LETTERS = {
     Character(*parts): chr(0x100 + number)
     for number, parts in enumerate(itertools.product(CLASSES, (False, True), (False, True), ("", "Pi", "Pf", "D")))
@@ -305,7 +305,7 @@ def bases(characters, version):
             counts[-1] += 1
         else:
             counts.append(1)
-            # (the width of an AL matters only in 17.0)
+            # (LB10 of 17.0 also makes the base narrow; in 15.0, the width of an AL does not matter)
             letters.append(LETTERS[c._replace(line_class="AL", is_wide=False, kind="") if is_mark else c])
         end = c.line_class
     return counts, "".join(letters)

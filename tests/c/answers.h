@@ -1,16 +1,16 @@
-/* Compares the results of all calls on two sessions. */
+/* Makes the same calls on two sessions, and compares the results. */
 #ifndef HORDGULI_ANSWERS_H
 #define HORDGULI_ANSWERS_H
 
 #include "test.h"
 
-/* A call and its results: its name, its arguments, and its status and output as numbers */
+/* A call: its name, its arguments, and its results (the status and the output) as numbers */
 typedef struct answer {
     const char *call;
     size_t arguments[3], results[4];
 } answer;
 
-/* The maximum number of answers of a session, and of elements of an array that a call fills */
+/* The maximum numbers of answers for a session, and of elements that a call stores in an array */
 enum { ANSWERS = 1 << 16, ELEMENTS = 512 };
 
 static answer answers[2][ANSWERS];
@@ -64,7 +64,8 @@ static inline void ask_position(hordguli_session *session, size_t pos, answer *t
     a->results[0] = (size_t)hordguli_utf16_of(session, pos, &a->results[1]);
 }
 
-/* Adds the shown characters of a line, with their levels and maps, and its runs. */
+/* Adds answers for the shown characters of a line, with their levels and maps, and for the runs of the
+ * line. */
 static inline void ask_shown(hordguli_session *session, size_t line, hordguli_line_info *info, answer *to) {
     static uint32_t visual[ELEMENTS], ltov[ELEMENTS], vtol[ELEMENTS];
     static uint8_t line_levels[ELEMENTS];
@@ -133,7 +134,8 @@ static inline void ask_offset(hordguli_session *session, size_t offset, answer *
     a->results[1] = position.pos, a->results[2] = position.rest;
 }
 
-/* Makes the calls for each position, line, paragraph and offset, and for the first of each past the end. */
+/* Makes the calls for each position, line, paragraph and offset, and for at least one of each past the
+ * end. */
 static inline void ask(hordguli_session *session, size_t from, size_t to_pos, answer *to) {
     hordguli_counts counts = {0, 0, 0, 0};
     size_t byte_count = 0;
@@ -147,7 +149,7 @@ static inline void ask(hordguli_session *session, size_t from, size_t to_pos, an
     for (size_t offset = 0; offset <= byte_count + 1; offset++) ask_offset(session, offset, to);
 }
 
-/* Compares two sessions on texts of `length` characters. */
+/* Compares the results of the calls on two sessions, whose texts have `length` characters. */
 static inline void answers_are_equal(hordguli_session *one, hordguli_session *other, size_t length) {
     size_t from = below(length + 1), to_pos = from + below(length + 1), count;
     ask(one, from, to_pos, answers[0]);

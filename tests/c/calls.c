@@ -116,7 +116,7 @@ static void opened_by_folder(const char *folder) {
     HOLDS(tables.at != NULL);
 }
 
-/* Checks that opening a folder fails if `file` cannot be read, with the error number `why`. */
+/* Checks that opening the folder fails because `file` cannot be read, and sets `errno` to `why`. */
 static void unread(const char *folder, uint32_t file, int why) {
     hordguli_tables opened = HORDGULI_TABLES_INIT;
     hordguli_table_fault fault = {77, 77, 77};
@@ -194,7 +194,8 @@ static void opened_by_images(const char *folder) {
     HOLDS(fault.cause == HORDGULI_CAUSE_TRUNCATED);
 }
 
-/* Checks the version of tables, and the base direction of a letter and the lines of `ls -v` by its rules. */
+/* Checks the version of tables, and two results that depend on it: the base direction of a letter, and the
+ * lines of `ls -v`. */
 static void has_rules(hordguli_tables *of, uint32_t wanted_version, uint32_t wanted_base, const char *wanted_lines) {
     static const uint32_t garay[] = {0x10D5A}; /* a letter of Unicode 16.0, of class R */
     char lines[20];
@@ -212,7 +213,8 @@ static void has_rules(hordguli_tables *of, uint32_t wanted_version, uint32_t wan
 static void has_rules_of_15(hordguli_tables *of) { has_rules(of, HORDGULI_UNICODE_15_0, 0, "ls -\nv\n"); }
 static void has_rules_of_17(hordguli_tables *of) { has_rules(of, HORDGULI_UNICODE_17_0, 1, "ls\n-v\n"); }
 
-/* Opens tables of each version: built-in ones, a folder's files and image, and the contents of files. */
+/* Tests opening tables of each version: built-in ones, and those of a folder, an image and the contents of
+ * files. */
 static void opened_by_version(const char *folder, const char *folder_17) {
     static const uint32_t unknown[] = {0, 15, 17, 0x100000, 0xF0001, 0x110100, UINT32_MAX};
     static unsigned char image[1 << 18];
@@ -290,7 +292,7 @@ static void opened_by_version(const char *folder, const char *folder_17) {
 
 /* ---- Sessions ---- */
 
-/* Three paragraphs: abc, a space and three Hebrew letters; a right-to-left line; and one without a
+/* Three paragraphs: `abc`, a space and three Hebrew letters; an RTL paragraph; and one that ends without a
  * separator. */
 static const char text[] = "abc \u05d0\u05d1\u05d2\n(\u05d0) 12\nx y";
 
@@ -410,7 +412,7 @@ static void changed(void) {
     damaged(&damage, 0, 5, 3, 0, 3, 3);
 }
 
-/* `damage` may be NULL: the statuses of the calls and their effect on the text stay the same. */
+/* If `damage` is NULL, edits return the same statuses, and change the text in the same way. */
 static void changed_without_damage(void) {
     IS(hordguli_insert(NULL, 0, "a", 1, NULL), NULL);
     IS(hordguli_insert(&session, 0, NULL, 1, NULL), NULL);
@@ -471,7 +473,8 @@ static void opened_measured(void) {
     hordguli_session_close(&other);
 }
 
-/* Tests statuses and damage of calls on a measured session. tests/c/measured.c tests its lines. */
+/* Tests statuses and damage of calls on a measured session. tests/c/measured.c tests the lines of such
+ * sessions. */
 static void measured(void) {
     hordguli_session other = HORDGULI_SESSION_INIT;
     hordguli_damage damage = {7, 7, 7, 7, 7, 7};
@@ -809,14 +812,15 @@ static void caret_is(int at, size_t pos, uint32_t side, size_t line, size_t colu
     holds(caret.level == level && caret.zero == 0, __FILE__, at, "the level of the caret");
 }
 
-/* An edge on the way of steps, before ('B') or after ('A') a position, and the column of its caret. */
+/* An edge that repeated steps reach, before ('B') or after ('A') a position, and the column of its caret. */
 typedef struct stop {
     size_t pos;
     char side; /* 0 ends a list */
     size_t column;
 } stop;
 
-/* Checks that steps in a direction lead from each stop to the next, and that the last one ends the line. */
+/* Checks that steps in a direction lead from each stop to the next, and that no step leads on from the
+ * last. */
 static void steps_are(int at, uint32_t direction, const stop *stops) {
     hordguli_edge from = edge(stops[0].pos, stops[0].side == 'A' ? AFTER : BEFORE);
     hordguli_caret caret = {7, 7, 7, 7};
@@ -933,7 +937,7 @@ static void nearest_edges(void) {
     NEAREST(0, 2, 2, AFTER);
     NEAREST(0, 3, 1, BEFORE);
     NEAREST(0, 4, 1, AFTER);
-    /* a tab of four columns, whose middle is a column */
+    /* a tab of four columns: column 2 is equally near to both ends */
     show("\tb", HORDGULI_TAB_WIDTH(4), 80);
     NEAREST(0, 1, 0, BEFORE);
     NEAREST(0, 2, 1, AFTER);
@@ -1118,7 +1122,7 @@ static void edges_of_lines(void) {
     IS(hordguli_edge_at(&shown, 2, 0, &found[0]), OUT_OF_RANGE);
     IS(hordguli_line_edges(&shown, 2, &found[0], &found[1]), OUT_OF_RANGE);
     IS(hordguli_line_clusters(&shown, 1, 0, NULL, &count), OUT_OF_RANGE);
-    /* separators that end a line and not a paragraph, and one that is shown */
+    /* separators that end a line, not a paragraph; and U+001C, a separator that is shown */
     show("a\u2028b\vc \f", 0, 80);
     ENDS(0, 0, 1, BEFORE);
     ENDS(1, 2, 3, BEFORE);
@@ -1169,7 +1173,7 @@ static void line_is(int at, size_t line, size_t length, size_t visible, size_t c
 }
 #define LINE(...) line_is(__LINE__, __VA_ARGS__)
 
-/* HORDGULI_SHOW_SPACES: as many of the spaces at a line's end are shown, with carets between them, as fit. */
+/* HORDGULI_SHOW_SPACES: as many spaces at the end of a line as fit are shown, with carets between them. */
 static void spaces_at_line_ends(void) {
     show("abc  ", HORDGULI_SHOW_SPACES, 80);
     LINE(0, 5, 5, 5, 0);
@@ -1351,7 +1355,7 @@ static void printed(void) {
     HOLDS(length == 74 + 8 && bytes[0] == ' ' && bytes[73] == ' ' && bytes[74] == '1');
     OK(hordguli_lines_utf8(&session, 3, 0, plain, 0, NULL, &length));
     HOLDS(length == 0);
-    /* work counters count laying out and filling, but not printing */
+    /* printing does not change the work counters */
     OK(hordguli_session_work(&session, &works[1]));
     HOLDS(memcmp(&works[0], &works[1], sizeof works[0]) == 0);
 }
@@ -1828,7 +1832,7 @@ static void without_session(void) {
 
 /* ---- Reasons ---- */
 
-/* Short names for bidi classes, and for `none` as a class (NC) and as a position (NP) */
+/* Short names for bidi classes, for no class (NC) and for no position (NP) */
 enum {
     L = HORDGULI_BIDI_CLASS_L, R = HORDGULI_BIDI_CLASS_R, AL_ = HORDGULI_BIDI_CLASS_AL, EN = HORDGULI_BIDI_CLASS_EN,
     ES = HORDGULI_BIDI_CLASS_ES, ET = HORDGULI_BIDI_CLASS_ET, AN = HORDGULI_BIDI_CLASS_AN, NSM = HORDGULI_BIDI_CLASS_NSM,
@@ -1896,7 +1900,8 @@ static const struct {
     {"a1", 0, 1, {NP, NP, 0, NP, NP, NP, NP, {EN, EN, EN, EN, EN, EN, EN, EN, L, L, L}, NC, 0, 0, L, L, 0, 0}},
 };
 
-/* Returns an address at which nothing is mapped, for arrays that a call must refuse without using them. */
+/* Returns an address at which nothing is mapped, for arrays that a call must refuse without accessing
+ * them. */
 static void *far_away(uintptr_t number) { return (void *)(number << 40); }
 
 static void reasons(void) {
@@ -1913,7 +1918,7 @@ static void reasons(void) {
             fprintf(stderr, "calls.c: row %zu of the reasons\n", k);
         HOLDS(found[count].opener == 0x4D4D4D4D && found[count].neutral == 77);
     }
-    /* BD16: 63 nested pairs of brackets are found, but of 64 none is. */
+    /* BD16: all of 63 nested pairs of brackets are found, but none of 64. */
     for (size_t open = 63; open <= 64; open++) {
         for (size_t k = 0; k < 2 * open; k++) text_characters[k] = k < open ? '(' : ')';
         OK(hordguli_reasons(&tables, 0, text_characters, 2 * open, 130, found));
@@ -2050,7 +2055,8 @@ static void properties(void) {
     OK(hordguli_properties(&tables, 0, NULL, NULL));
 }
 
-/* A wide emoji and a nonspacing mark that Unicode 18.0 adds. The tables of 17.0 do not have them. */
+/* Characters that Unicode 18.0 adds, a wide emoji and a nonspacing mark, have their widths even with tables
+ * of 17.0. */
 static void widths_are_of_their_version(void) {
     static const uint32_t characters[] = {0x1FACC, 0x5C8};
     hordguli_tables newest = HORDGULI_TABLES_INIT;
@@ -2063,7 +2069,7 @@ static void widths_are_of_their_version(void) {
     hordguli_tables_close(&newest);
 }
 
-/* The levels of a row before L1, its characters, and what `hordguli_row` stores. Levels and positions are digits. */
+/* Arguments for `hordguli_row`, and what it must store. Levels and positions are digits. */
 typedef struct row {
     const char *name;
     uint32_t base, options;

@@ -5,10 +5,10 @@
 
 #include "test.h"
 
-/* The maximum number of characters and of bytes in a text, and an index that stands for no unit */
+/* The maximum numbers of characters and of bytes in a text, and the index that stands for no unit */
 enum { MOST = 120, BYTES = MOST * 4, NONE = MOST + 1 };
 
-/* What the layout says about a character. `characters` is indexed by position. */
+/* Where the layout puts a character, and its cluster and caret unit. `characters` is indexed by position. */
 typedef struct character {
     size_t line;
     int is_shown;
@@ -62,7 +62,8 @@ static inline int begins_unit(size_t pos) {
     return 1;
 }
 
-/* A unit ends where the next one of its cluster begins, or else where the shown part of the cluster ends. */
+/* Returns the end of the unit that starts at `start`: where the next unit of its cluster begins, or else
+ * where the shown part of the cluster ends. */
 static inline size_t end_of_unit(size_t start) {
     size_t pos = start + 1;
     while (pos < length && are_together(start, pos) && characters[pos].is_shown && !begins_unit(pos)) pos++;
@@ -107,7 +108,7 @@ static inline int is_edge(hordguli_edge found, hordguli_edge wanted) {
     return found.pos == wanted.pos && found.side == wanted.side && found.zero == 0;
 }
 
-/* The edges at the left and the right end of a unit. At an even level, it starts at the left end. */
+/* The edges at the left and the right end of a unit. At an even level, the unit starts at its left end. */
 static inline hordguli_edge left_edge(const unit *u) { return u->level % 2 == 0 ? before(u->start) : after(u->end); }
 static inline hordguli_edge right_edge(const unit *u) { return u->level % 2 == 0 ? after(u->end) : before(u->start); }
 
@@ -130,7 +131,7 @@ static inline hordguli_caret caret_beside(size_t pos, int is_after) {
     return (hordguli_caret){c->line, is_after == (c->level % 2 == 0) ? right : left, c->level, 0};
 }
 
-/* Returns 0 if there is no such edge. */
+/* Stores the caret for an edge. Returns 0 if there is no such edge. */
 static inline int reference_caret(hordguli_edge edge, hordguli_caret *caret) {
     if (edge.pos > length || (edge.side == HORDGULI_AFTER && edge.pos == 0)) return 0;
     if (edge.side == HORDGULI_AFTER) *caret = caret_beside(edge.pos - 1, 1);
@@ -140,8 +141,8 @@ static inline int reference_caret(hordguli_edge edge, hordguli_caret *caret) {
     return 1;
 }
 
-/* Finds the nearest unit end to the left or right of a column, and stores it as an edge of its unit, which
- * the step passes. Returns 0 if there is none. */
+/* Finds the nearest unit end to the left or right of a column. Stores it as an edge of that unit, which the
+ * step passes. Returns 0 if there is no such end. */
 static inline int reference_step(size_t line, size_t column, uint32_t direction, hordguli_edge *next) {
     const unit *nearest = NULL;
     for (const unit *u = units; u < units + unit_count; u++) {
@@ -153,7 +154,7 @@ static inline int reference_step(size_t line, size_t column, uint32_t direction,
     return nearest != NULL;
 }
 
-/* Returns 0 if there is no such line. */
+/* Stores the edge at a column of a line. Returns 0 if there is no such line. */
 static inline int reference_edge_at(size_t line, size_t column, hordguli_edge *edge) {
     const unit *u;
     if (line == line_count && starts_next_line()) return *edge = before(length), 1;
@@ -163,7 +164,8 @@ static inline int reference_edge_at(size_t line, size_t column, hordguli_edge *e
     return *edge = before(lines[line].start), 1;
 }
 
-/* The nearer end of the unit that covers the column; if there is none, the edge of `reference_edge_at` */
+/* Stores the nearer end of the unit that covers a column. If there is none, does the same as
+ * `reference_edge_at`. */
 static inline int reference_nearest_edge(size_t line, size_t column, hordguli_edge *edge) {
     const unit *u = line < line_count ? covering(line, column) : NULL;
     if (u == NULL) return reference_edge_at(line, column, edge);

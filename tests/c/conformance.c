@@ -22,7 +22,8 @@ static void check(hordguli_status status) {
     if (status != HORDGULI_OK) fail(hordguli_status_text(status));
 }
 
-/* Reads the hexadecimal code points of the next line of standard input. Returns 0 at its end. */
+/* Reads the hexadecimal code points in the next line of standard input to `text`. Returns 0 at the end of the
+ * input. */
 static int next(void) {
     static char line[MOST * 8];
     char *at = line, *end;

@@ -3,8 +3,8 @@
  *
  * - Lays out TEXTS random texts, and compares each call with a reference implementation of its definition in
  *   the header. The reference works from the levels, order and widths that `hordguli_line` stores, and from
- *   grapheme clusters. With HORDGULI_SHOW_SPACES, the expected shown parts are those without this option, and
- *   the spaces after them that fit.
+ *   grapheme clusters. With HORDGULI_SHOW_SPACES, each expected shown part is the one without this option,
+ *   and as many of the spaces after it as fit.
  * - Opens SESSIONS sessions and edits them. Each call must then return the same results as in a new session
  *   on the same text. */
 #include "answers.h"
@@ -130,9 +130,9 @@ static void units_tile_lines(void) {
 
 /* ---- Shown spaces ---- */
 
-/* Compares the lines with those of a session without HORDGULI_SHOW_SPACES, which must start at the same
+/* Compares the lines with those of a session without HORDGULI_SHOW_SPACES. They must start at the same
  * positions. With the option, each shown part has, in addition, as many of the spaces that follow it as fit.
- * In Unicode's tables, only U+0020 has the class SP. */
+ * Testing for U+0020 is enough, since no other character has the class SP in Unicode's tables. */
 static void shown_spaces_are_right(uint32_t width) {
     hordguli_session session = HORDGULI_SESSION_INIT;
     hordguli_counts counts;
@@ -168,7 +168,7 @@ static size_t reference_clusters(size_t line, size_t ends[MOST]) {
     return count;
 }
 
-/* Checks that an edge is not the one after a character that ends a line, which no call returns. */
+/* Checks that an edge is not the edge after a character that ends a line: no call returns such an edge. */
 static void is_inside_line(hordguli_edge edge) {
     HOLDS(edge.side == HORDGULI_BEFORE || (edge.pos > 0 && !ends_line(text[edge.pos - 1])));
 }
@@ -179,7 +179,7 @@ static hordguli_caret caret_of(hordguli_session *session, hordguli_edge edge) {
     return caret;
 }
 
-/* Whether a column is an end of a unit of the line; if the line has no columns, whether it is column 0 */
+/* Whether a unit of the line begins or ends at a column or, if the line has no columns, the column is 0 */
 static int is_boundary(size_t line, size_t column) {
     if (line == line_count || lines[line].columns == 0) return column == 0;
     for (const unit *u = units; u < units + unit_count; u++)
@@ -220,7 +220,8 @@ static void carets_and_steps_are_right(hordguli_session *session) {
         OK(hordguli_edge_caret(session, edge, &caret));
         HOLDS(memcmp(&caret, &wanted, sizeof caret) == 0);
         if (edge.side == HORDGULI_BEFORE) {
-            /* the character's own edge, inside the unit if this is in logical order at an odd level */
+            /* the edge of the character itself, which is inside the unit if the unit is in logical order at
+             * an odd level */
             const character *c = &characters[edge.pos];
             hordguli_caret own = wanted;
             if (edge.pos < length && c->is_shown && (options & HORDGULI_REORDER_CLUSTERS) != 0)

@@ -12,7 +12,7 @@ enum { MOST = 400, BYTES = 1 << 25, STORED = 300, KEPT = 5000000 };
 static hordguli_tables tables = HORDGULI_TABLES_INIT;
 static char text[MOST * 16], page[BYTES], lines[BYTES];
 
-/* The arguments of a call of `hordguli_layout` */
+/* Arguments for `hordguli_layout`, without the buffer */
 typedef struct request {
     uint32_t options, width, print;
     const char *text;
@@ -55,7 +55,8 @@ static size_t session_lines(const request *r) {
     return length;
 }
 
-/* Compares a layout with the lines of a session. Also tries a buffer that is one byte too small, and none. */
+/* Compares a layout with the lines of a session. Also tries a buffer that is one byte too small, and no
+ * buffer. */
 static void is_page_of_session(const request *r) {
     size_t wanted = session_lines(r), written = 77;
     memset(page, '?', wanted + 1);
@@ -136,7 +137,8 @@ void __wrap_free(void *block) {
     __real_free(block);
 }
 
-/* Repeated calls allocate nothing. All of them have the option `line_separators`, unless it is 0. */
+/* If calls are repeated, they allocate nothing. `line_separators` is 0 or HORDGULI_LINE_SEPARATORS, an option
+ * of all calls. */
 static void warm_calls_allocate_nothing(uint32_t line_separators) {
     uint64_t start = seed;
     for (int round = 0; round < 2; round++) {
@@ -154,7 +156,8 @@ static void warm_calls_allocate_nothing(uint32_t line_separators) {
     }
 }
 
-/* A handle keeps little memory after each call, and none after a call with much text or many lines. */
+/* After each call, a handle keeps less than KEPT bytes. After a call with a long text, it keeps at most the
+ * buffer for the lines. */
 static void large_calls_keep_little(const char *folder) {
     static const char *const pieces[] = {
         "a", "a\n", "\n", "\u05d0", "\u05d0 (a) ", "(", "([{", "\u2067", "\u2068\u05d0\u2069", "\u2067\u2066", "\u202ba",

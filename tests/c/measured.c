@@ -1,6 +1,6 @@
 /* Tests measured sessions. Usage: measured FOLDER TEXTS SESSIONS, where FOLDER has the table files.
  *
- * - Checks examples of each rule, in rows.
+ * - Checks examples of each rule.
  * - Edits and measures TEXTS random texts, and keeps a copy of their advances. Compares lines, columns,
  *   carets, hits, edges and selections with a reference implementation of the definitions in
  *   docs/reference.md. The reference works from break marks, levels, clusters and advances. An edit and the
@@ -22,7 +22,7 @@ static char bytes[BYTES];
 
 /* ---- Rows ---- */
 
-/* Opens the session on a text whose characters have these advances. */
+/* Opens the session on a text, and sets the advances of its characters. */
 static void open_on(const char *content, uint32_t own_options, uint32_t own_width, const uint32_t *own_advances, size_t count) {
     hordguli_session_close(&session);
     OK(hordguli_session_open_measured(&session, &tables, own_options, own_width, content, strlen(content)));
@@ -65,7 +65,7 @@ static int is_nearest(size_t line, size_t column, hordguli_edge wanted) {
     return hordguli_nearest_edge(&session, line, column, &edge) == HORDGULI_OK && is_edge(edge, wanted);
 }
 
-/* Checks that the next edge to the right is `wanted`. */
+/* Returns whether a step to the right from the edge `from` leads to `wanted`. */
 static int steps_right_to(hordguli_edge from, hordguli_edge wanted) {
     hordguli_edge next;
     uint32_t moved;
@@ -337,7 +337,8 @@ static uint32_t random_width(void) {
     return found > INT32_MAX ? INT32_MAX : (uint32_t)found;
 }
 
-/* Stores random advances: equal, large, 0 at some or all characters, or as of ligatures. */
+/* Stores random advances, which can be all equal, large, or 0 for all or some characters (as in
+ * ligatures). */
 static void random_advances(uint32_t *into, size_t count) {
     size_t kind = below(7), equal = below(3 * (size_t)scale);
     for (size_t k = 0; k < count; k++) {
@@ -486,7 +487,8 @@ static void lay_out(void) {
             lay_out_line(at, end, base, at == start);
         }
     }
-    /* without HORDGULI_REORDER_CLUSTERS, marks that have columns may be separated from the rest of their cluster */
+    /* with HORDGULI_REORDER_NSM alone, a mark that has columns may be apart from its cluster, so no units are
+     * computed */
     unit_count = 0;
     if ((options & HORDGULI_REORDER_NSM) == 0 || (options & HORDGULI_REORDER_CLUSTERS) != 0) find_units();
 }
@@ -558,7 +560,8 @@ static void column_is_right(size_t line, size_t column, int has_units) {
     HOLDS(is_edge(edge, wanted_edge));
 }
 
-/* Compares hits and edges at both ends and in the middle of each character, and selections. */
+/* Compares hits and edges at both ends, in the middle and at a random column of each character, and
+ * selections. */
 static void columns_are_right(int has_units) {
     for (size_t line = 0; line < line_count; line++) {
         const hordguli_line_info *info = &lines[line];
@@ -631,7 +634,7 @@ static void keep(void) {
     kept_length = length;
 }
 
-/* Checks a status. Returns 1 if the call was accepted, or restores the text and the advances. */
+/* Checks the status of a call. If the call was refused, restores the text and the advances, and returns 0. */
 static int is_accepted(hordguli_status status) {
     int is_wide = has_wide_paragraph();
     HOLDS(status == (is_wide ? HORDGULI_PARAGRAPH_TOO_LONG : HORDGULI_OK));
@@ -642,14 +645,14 @@ static int is_accepted(hordguli_status status) {
     return 0;
 }
 
-/* Sets random advances of a range, in the session and in `advances`. */
+/* Sets random advances in a range, in the session and in `advances`. Returns 0 if the call was refused. */
 static int measure(size_t pos, size_t count, hordguli_damage *damage) {
     keep();
     random_advances(advances + pos, count);
     return is_accepted(hordguli_set_advances(&session, pos, count, advances + pos, damage));
 }
 
-/* Makes a random edit, in the session and in `text` and `advances`. */
+/* Makes a random edit, in the session and in `text` and `advances`. Returns 0 if the edit was refused. */
 static int edit(hordguli_damage *damage) {
     uint32_t piece[12];
     char piece_bytes[sizeof piece];
@@ -680,7 +683,7 @@ static void find_new(hordguli_session *of, const hordguli_damage *damage, size_t
     }
 }
 
-/* Makes a random edit, and then sets the advances of its new paragraphs, or of a part of them. */
+/* Makes a random edit, and then sets the advances of all or part of its new paragraphs. */
 static void edit_and_measure(const snapshot *then) {
     static snapshot between, now;
     hordguli_damage edited = {7, 7, 7, 7, 7, 7}, measured = {7, 7, 7, 7, 7, 7};
@@ -759,7 +762,7 @@ static void measure_in_columns(hordguli_session *of, const hordguli_damage *edit
     OK(hordguli_set_advances(of, start, count, advances, measured));
 }
 
-/* Makes the same random change in both sessions. */
+/* Makes the same random change in both sessions, and checks that the damage is the same. */
 static void change_both(hordguli_session *plain, hordguli_session *measured) {
     uint32_t piece[12];
     char piece_bytes[sizeof piece];

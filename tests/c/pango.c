@@ -1,5 +1,5 @@
-/* Compares where lines start in a session and in Pango's layout of the same text, with the advances that
- * Pango measures, and measures the times of both. tests/c/pango runs it. Usage: pango < TEXTS. Each line of
+/* Compares where lines start in a session, with the advances that Pango measures, and in Pango's layout of
+ * the same text. Also measures the times of both. tests/c/pango runs it. Usage: pango < TEXTS. Each line of
  * TEXTS is a width in pixels, a space and a text without separators.
  *
  * Prints a line for each text: `same` and the number of lines, or `differ` and four numbers about the first line that starts
@@ -10,15 +10,15 @@
  *   - 1 if there is a break opportunity in Pango where our line starts, else 0
  *
  * The last line begins with `times`. Then come six times in nanoseconds, and the number of texts for which
- * shaping gives Pango's advances, before, during and after the edit. Each time is a sum over the texts, with
- * the minimum of several runs for each. An edit inserts a letter in the middle and deletes it. The times are
- * for:
+ * shaping always gives Pango's advances: before an edit, with the inserted letter, and after the edit. (An
+ * edit inserts a letter in the middle and deletes it.) Each time is a sum over the texts, of the minimum of
+ * several runs for each text. The times are for:
  *   - two changes of the width here
  *   - two changes of the width in Pango, until the lines are known
  *   - an edit here, with advances that are known
- *   - an edit here, after HarfBuzz has shaped, with Pango's fonts, the text between the spaces around the
+ *   - an edit here, where HarfBuzz shapes, with Pango's fonts, only the text between the spaces around the
  *     changed characters, levels, fonts and scripts
- *   - an edit here, after HarfBuzz has shaped the whole paragraph
+ *   - an edit here, where HarfBuzz shapes the whole paragraph
  *   - an edit in Pango, which shapes the whole paragraph, until the lines are known */
 #include "test.h"
 
@@ -129,8 +129,8 @@ static void edit(hordguli_session *session, size_t pos, size_t count) {
     check(is_so && hordguli_set_advances(session, 0, count, advances, NULL) == HORDGULI_OK, "no edit");
 }
 
-/* Returns the script of a character, or that of the character before it if the script is Common, Inherited or
- * Unknown. */
+/* Returns the script of a character or, if it is Common, Inherited or Unknown, `before`, the script of the
+ * character before. */
 static hb_script_t script_of(hb_codepoint_t c, hb_script_t before) {
     hb_script_t script = hb_unicode_script(hb_unicode_funcs_get_default(), c);
     return script == HB_SCRIPT_COMMON || script == HB_SCRIPT_INHERITED || script == HB_SCRIPT_UNKNOWN ? before : script;
@@ -146,7 +146,7 @@ static uint32_t font_of(hb_codepoint_t c) {
 }
 
 /* Finds the style of each character. As in Pango, a space gets the font of a neighbour of the same level and
- * script: the one that comes first in the list of fonts. */
+ * script. If the fonts of its neighbours differ, it gets the one that comes first in `fonts`. */
 static void find_styles(hordguli_session *session, size_t count) {
     static uint8_t levels[MOST];
     hordguli_paragraph_info info;

@@ -141,7 +141,7 @@ static void same_places(hordguli_session *kept, hordguli_session *anew, const ho
     }
 }
 
-/* The calls without a session find the same characters, offsets and clusters as the session. */
+/* Calls without a session return the same characters, offsets and clusters as those on the session. */
 static void text_alone_is_that_of_session(hordguli_session *session, const char *bytes, size_t size, size_t count) {
     static uint32_t characters[2][MOST * 4];
     static size_t offsets[MOST * 4], ends[MOST * 4];

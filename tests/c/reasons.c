@@ -1,6 +1,6 @@
 /* Compares the records that `hordguli_reasons` and `hordguli_break_reasons` store for random texts with the
- * results of other calls, and checks what the header states about each field. Usage: reasons TEXTS, for this
- * many texts with the tables of each version. */
+ * results of other calls, and checks what the header states about each field. Usage: reasons TEXTS, where
+ * TEXTS is the number of texts for the tables of each version. */
 #include "test.h"
 
 enum { MOST = 400, PIECES = 40, NO_CLASS = 0xFF, CLASSES = 11, OPEN = 63 };
@@ -30,7 +30,7 @@ static int is_initiator(uint8_t class) { return IS_IN(class, BIDI(LRI), BIDI(RLI
 
 static int is_strong(uint8_t class) { return IS_IN(class, BIDI(L), BIDI(R), BIDI(EN), BIDI(AN)); }
 
-/* The direction that N0 to N2 give a strong class or a number */
+/* Returns the direction, L or R, of a strong class or a number for N0 to N2. */
 static uint8_t direction_of(uint8_t class) { return class == BIDI(L) ? BIDI(L) : BIDI(R); }
 
 static uint8_t direction_of_level(uint8_t level) { return level % 2 == 0 ? BIDI(L) : BIDI(R); }
@@ -40,7 +40,8 @@ static int is_removed(size_t k) { return reasons[k].sequence == NO_POSITION; }
 /* Returns whether a position exists and is below a bound. */
 static int is_below(uint32_t position, size_t bound) { return position != NO_POSITION && position < bound; }
 
-/* X1 to X8: the embedding, override or isolate of a character. A separator in it has the base level. */
+/* X1 to X8: the embedding, override or isolate around a character. A separator inside it still has the base
+ * level. */
 static void opener_is_right(size_t k) {
     const hordguli_reason *reason = &reasons[k];
     uint8_t wanted = NO_CLASS;

@@ -1,8 +1,8 @@
 /* Makes each allocation fail in turn. A call whose allocation fails must return NO_MEMORY and change nothing. The same
  * call must then succeed if no allocation fails. At the end, all memory must be freed. If a file cannot be
- * read, errno must have the error of that call, even if `free` and `close` change errno. Usage: refuse
- * FOLDER, where FOLDER has small table files. Link it with --wrap=malloc, --wrap=realloc, --wrap=free and
- * --wrap=close. */
+ * read, errno must have the error of the failed `open` or `read`, even if `free` and `close` change errno.
+ * Usage: refuse FOLDER, where FOLDER has small table files. Link it with --wrap=malloc, --wrap=realloc,
+ * --wrap=free and --wrap=close. */
 #include "test.h"
 
 #include <errno.h>
@@ -182,8 +182,8 @@ static int keeps_buffers(int k) {
     return k == LAYOUT || k == WIDTH || k == ADVANCES || k == MEASURED_WIDTH || opens_session(k) || edits(k);
 }
 
-/* Whether a call may free memory even if it fails: an edit, the lists of a paragraph that an earlier edit
- * replaced; an opening, the buffers that the tables lend to the new session */
+/* Whether a call may free memory even if it fails. An edit may free the lists of a paragraph that an earlier
+ * edit replaced. Opening a session may free the buffers that the tables lend to it. */
 static int frees_buffers(int k) { return opens_session(k) || edits(k); }
 
 /* If a folder is in place of a file, the call can open it, but not read it, and must close it. */
@@ -257,7 +257,8 @@ int main(int count, char **words) {
             }
             HOLDS(step(k) == HORDGULI_OK);
         }
-        /* at most one call fails per run, or none if the library can do without the failed allocation */
+        /* no call fails in the first and the last run, and at most one in any other: the library can do
+         * without some allocations */
         HOLDS(refusals <= (at > 0 && at <= most));
         if (at == 0) {
             most = asked;

@@ -77,7 +77,8 @@ static void reverse(uint32_t *items, size_t from, size_t to) {
     }
 }
 
-/* L1: a blank is reset if only blanks are between it and a separator or the end of the row. */
+/* L1: separators are reset, and so are blanks if only blanks are between them and a separator or the end of
+ * the row. */
 static void reset(row *r, const hordguli_character *records, const uint8_t *levels, uint32_t base, size_t count) {
     for (size_t k = 0; k < count; k++) {
         size_t to = k;
@@ -126,7 +127,7 @@ static void order(row *r, const hordguli_character *records, uint32_t options, s
     }
 }
 
-/* The runs, from the visual order without L3. */
+/* Stores the runs of a row, derived from its visual order without L3. */
 static void find_runs(row *r, size_t count) {
     r->run_count = 0;
     for (size_t at = 0; at < count;) {

@@ -4,8 +4,8 @@
 
 enum { SNAPSHOT_LINES = 1600, SNAPSHOT_CHARACTERS = 1600 };
 
-/* Each line has its numbers, without its position and padding, and a hash of its characters, levels, maps, columns and
- * advances. */
+/* For each line, what `hordguli_line` stores in `*info`, but without the start and the padding, and a hash of
+ * its characters, levels, maps, columns and advances. */
 typedef struct snapshot {
     struct {
         hordguli_line_info info;
@@ -16,7 +16,7 @@ typedef struct snapshot {
 
 static uint64_t hashed(uint64_t hash, uint64_t number) { return (hash ^ number) * 0x100000001B3; }
 
-/* `advances` are those of the session's characters, or NULL if it is not measured. */
+/* Takes a snapshot of a session. `advances` are those of its characters, or NULL if it is not measured. */
 static void take(hordguli_session *of, const uint32_t *advances, snapshot *into) {
     static uint32_t visual[SNAPSHOT_CHARACTERS], ltov[SNAPSHOT_CHARACTERS], vtol[SNAPSHOT_CHARACTERS];
     static uint8_t line_levels[SNAPSHOT_CHARACTERS];
@@ -50,8 +50,8 @@ static void lines_were_replaced(const snapshot *then, const snapshot *now, size_
     HOLDS(memcmp(then->lines + first + old, now->lines + first + new, (now->count - first - new) * sizeof *then->lines) == 0);
 }
 
-/* Checks the changed lines: those in the damage, without as many unchanged lines as possible at its start,
- * and then at its end. */
+/* Checks which lines changed: those in the damage, without the unchanged lines at its start and then those at
+ * its end. */
 static void changed_lines_are_right(hordguli_session *of, const snapshot *then, const snapshot *now, const hordguli_damage *damage) {
     hordguli_changed changed = {7, 7, 7};
     size_t before = 0, after = 0, first = damage->first_line, old = damage->old_lines, new = damage->new_lines;

@@ -331,7 +331,7 @@ static void damage_and_changed_lines_have_each_value_in_its_field(void) {
     hordguli_session_close(&session);
 }
 
-/* In a measured session, `words` has 13 lines at a width of 4 if each advance is 1. */
+/* In a measured session, `words` has 13 lines at a width of 4 once each advance is 1. */
 static void damage_of_measured_text_has_each_value_in_its_field(void) {
     hordguli_session session = HORDGULI_SESSION_INIT;
     hordguli_damage damage = {77, 77, 77, 77, 77, 77};
@@ -750,7 +750,8 @@ static void write_file(size_t file, const char *content) {
         __VA_ARGS__;                                                                                                   \
     }
 
-/* Pointers that are NULL, and handles that are closed although they must be open, or the reverse */
+/* Pointers that are NULL, handles that are closed but must be open, and handles that are open but must be
+ * closed */
 WAY(null_tables, a->tables = NULL)
 WAY(null_session, a->session = NULL)
 WAY(null_out, a->out = NULL)
@@ -868,7 +869,7 @@ WAY(changed_byte, /* of the magic bytes, the format, the version of Unicode and 
 
 #define END {NULL, 0, NULL, 0, 0}
 
-/* Ways for a session and an output parameter, which may be NULL in an edit */
+/* Ways for a session, and for an output parameter that may be NULL only in an edit */
 #define OF_EDITED_SESSION                                      \
     {"NULL", SESSION | SESSION_IS, null_session, 0, 0},        \
     {"OVERLAP", OUT | SESSION_IS, out_at_session, 0, 0},       \
@@ -1480,7 +1481,7 @@ static const call calls[] = {
 
 enum { CALLS = sizeof calls / sizeof *calls, MOST = 24 };
 
-/* The items of a list of errors, none if the list is NULL */
+/* The items of a list of errors (no items if the list is NULL) */
 typedef struct items {
     char words[MOST][64];
     size_t count;
@@ -1516,7 +1517,7 @@ static uint32_t bits_of(const char *errors, const items *order) {
     return bits;
 }
 
-/* Returns the status that the first word of an item names. */
+/* Returns the status that the first word of an item names, or -1 if there is none. */
 static hordguli_status status_of(const char *item) {
     size_t length = strcspn(item, " ");
     for (hordguli_status status = 0; status < STATUSES; status++)
@@ -1601,8 +1602,8 @@ static arguments good_arguments(const call *c, int is_new) {
     return a;
 }
 
-/* Checks the output that a call stores with its status, and restores the old contents of that memory. The
- * caller checks all other memory. */
+/* Checks the output that a refused call stores, which depends on its status, and restores the old contents of
+ * that memory. The caller checks all other memory. */
 static int is_set_as_promised(const call *c, hordguli_status status) {
     int is_set = 1;
     if (status == HORDGULI_NO_ROOM && c->out_size != 0) { /* the required capacity */

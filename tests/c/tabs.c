@@ -63,8 +63,9 @@ static int may_trail(size_t k) {
     return c == ' ' || (c >= 0xA && c <= 0xD) || c == 0x85 || c == 0x2028 || c == 0x2029;
 }
 
-/* Returns the columns of the character at `k`, on a line that starts at `start`. */
 static size_t columns_to(size_t start, size_t end);
+
+/* Returns the columns of the character at `k`, on a line that starts at `start`. */
 static size_t columns_of(size_t start, size_t k) {
     return is_tab(k) ? tab_width - columns_to(start, k) % tab_width : properties[k].columns;
 }

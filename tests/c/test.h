@@ -10,7 +10,7 @@
 
 static long passed, failed;
 
-/* Counts a check, and reports where it fails. */
+/* Counts a check as passed or failed, and reports the first 20 failures. */
 #define HOLDS(condition) holds((condition), __FILE__, __LINE__, #condition)
 static inline int holds(int is_so, const char *file, int line, const char *what) {
     if (is_so) {
@@ -36,7 +36,7 @@ static inline size_t below(size_t bound) {
     return (size_t)(seed % bound);
 }
 
-/* Ends the test if an allocation has failed. */
+/* Returns `block`, or ends the test if it is NULL. */
 static inline void *sure(void *block) {
     if (block == NULL) {
         fprintf(stderr, "out of memory\n");
@@ -58,7 +58,7 @@ static inline size_t encoded(const uint32_t *from, size_t count, char *into) {
     return at;
 }
 
-/* Reads characters from valid UTF-8 that ends with a NUL, and returns their number. */
+/* Decodes valid, NUL-terminated UTF-8 to `into`, and returns the number of characters. */
 static inline size_t decoded(const char *bytes, uint32_t *into) {
     size_t count = 0;
     for (const unsigned char *at = (const unsigned char *)bytes; *at != 0; at++) {

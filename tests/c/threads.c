@@ -54,7 +54,8 @@ static hordguli_status print(hordguli_session *session, work *at) {
     return hordguli_lines_utf8(session, 0, counts.lines, 127, BYTES, at->bytes, &at->length);
 }
 
-/* Lays out the text of a session without a session, several times, with tables of this thread. */
+/* Lays out a session's text several times by `hordguli_layout`, with tables of this thread. Returns -1 if the
+ * lines differ from those in `at`. */
 static hordguli_status lay_out_alone(hordguli_session *session, const work *at) {
     hordguli_tables tables = HORDGULI_TABLES_INIT;
     hordguli_counts counts;
@@ -106,7 +107,8 @@ static handed sessions[SESSIONS];
 static handed *first, **last = &first;
 static long unclosed;
 
-/* Takes the session that has waited longest, if there is one. Returns 0 once all sessions are closed. */
+/* Takes the session that has waited longest, or NULL if none is waiting. Returns 0 once all sessions are
+ * closed. */
 static int take(handed **taken) {
     int more;
     pthread_mutex_lock(&lock);

@@ -28,7 +28,8 @@ static void highlight(size_t left, size_t right) {
     sprintf(highlighted + strlen(highlighted), "%zu-%zu ", left, right);
 }
 
-/* Opens the session on another text, with the caret after its last character, or before its start. */
+/* Opens the session on another text, with the caret after the text's last character or, if this character
+ * ends a line, at the start of the next line. */
 static void open_text(hordguli_tables *tables, uint32_t options, uint32_t width, const char *text) {
     hordguli_counts all = {0};
     hordguli_session_close(&session);
@@ -38,7 +39,7 @@ static void open_text(hordguli_tables *tables, uint32_t options, uint32_t width,
 }
 
 static void test_backspace(hordguli_tables *tables) {
-    /* the caret stays at the left end of the Hebrew letters, at the position before them */
+    /* the caret stays in column 4, at the left end of the Hebrew letters */
     open_text(tables, 0, 20, "abc ");
     OK(type("\u05d0\u05d1\u05d2", 6));
     HOLDS(is_at(0, 4));
@@ -53,7 +54,7 @@ static void test_backspace(hordguli_tables *tables) {
     HOLDS(is_at(0, 10));
     OK(press_backspace());
     HOLDS(is_at(0, 9));
-    /* Backspace deletes a cluster, after which the caret is at the start of its line */
+    /* Backspace deletes a whole cluster, and the caret is then at the start of the line */
     open_text(tables, 0, 20, "a\u2028e\u0301");
     OK(press_backspace());
     HOLDS(is_edge(2, HORDGULI_BEFORE));
@@ -80,7 +81,7 @@ static void test_line_that_does_not_exist(hordguli_tables *tables) {
 }
 
 int main(int count, char **words) {
-    /* a line in which the direction changes, and a padded one */
+    /* a line in which the direction changes, and a right-to-left line with padding */
     static const char text[] = "abc \u05d0\u05d1\u05d2 def\n\u05d0\u05d1 \u05d2\n";
     static const size_t stops[] = {1, 2, 3, 4, 5, 6, 7, 8, 9, 10, 11};
     hordguli_tables tables = HORDGULI_TABLES_INIT;

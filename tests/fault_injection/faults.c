@@ -1,5 +1,5 @@
-/* Makes a chosen call to the C library fail, and counts calls, in a program that preloads this library
- * (LD_PRELOAD). Ignores writes to files other than standard output.
+/* A library to preload (LD_PRELOAD): makes a chosen call to the C library fail, and counts calls. Ignores
+ * writes to files other than standard output.
  *
  * FAULT_CALL  the call that fails: malloc, read, read-table (of a file named .txt), write or open
  * FAULT_AT    the number of the call, from 1

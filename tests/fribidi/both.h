@@ -1,5 +1,6 @@
-/* FriBidi's functions, loaded from libfribidi.so.0 and from our library. Each library has its own dlopen handle, so
- * neither replaces the other's functions. Also lists the 23 types, and makes pseudorandom numbers. */
+/* Loads FriBidi's functions from libfribidi.so.0 and from our library. Each library has its own dlopen
+ * handle, so neither replaces the other's functions. Also has a list of the 23 types, and a pseudorandom
+ * number generator. */
 #ifndef TESTS_BOTH_H
 #define TESTS_BOTH_H
 
@@ -34,7 +35,8 @@ static void *found(void *handle, const char *name) {
     return call;
 }
 
-/* Loads the functions of the library at a path. */
+/* Loads the functions from the library at a path. Ends the program if the library or a function is
+ * missing. */
 static calls calls_of(const char *path) {
     void *handle = dlopen(path, RTLD_NOW | RTLD_LOCAL);
     calls all = {0};

@@ -79,9 +79,9 @@ static unsigned met(int call, const input *one) {
 
 /* ---- Random lists ---- */
 
-/* Returns the index of the first separator inside an open isolate, or -1. FriBidi writes to freed memory for lists with
- * such a separator, so it does not get these lists. It does not get lists that nest too deeply either,
- * because it may then end the program. */
+/* Returns the index of the first separator inside an open isolate, or -1. FriBidi writes to freed memory for
+ * a list with such a separator, and may end the program for one that nests too deeply. So `draw` makes no
+ * such lists. */
 static int open_at_separator(const input *one) {
     for (int k = 0, open = 0; k < one->length; k++) {
         if (one->types[k] == FRIBIDI_TYPE_BS && open > 0) return k;

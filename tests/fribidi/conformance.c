@@ -1,7 +1,7 @@
 /* Runs Unicode's BidiTest.txt and BidiCharacterTest.txt. The levels come from
- * fribidi_get_par_embedding_levels_ex, followed by fribidi_reorder_line. The order is that into which
- * fribidi_reorder_line puts the map 0, 1, .. Characters that X9 removes have the level `x` in the files, and
- * are skipped. Usage: conformance LIBRARY FOLDER. */
+ * fribidi_get_par_embedding_levels_ex, followed by fribidi_reorder_line. The order is the map 0, 1, .. after
+ * fribidi_reorder_line has reordered it. Characters that X9 removes have the level `x` in the files, and are
+ * skipped. Usage: conformance LIBRARY FOLDER. */
 #include "both.h"
 
 #define MOST 256

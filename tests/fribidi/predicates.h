@@ -30,7 +30,8 @@ static unsigned first_direction(const input *one, int outside) {
  * changes the direction. */
 static int first_strong_in_isolate(const input *one) { return first_direction(one, 0) != first_direction(one, 1); }
 
-/* By P3, even a paragraph without strong characters has a level. FriBidi returns the requested weak direction. */
+/* By P3, even a paragraph without strong characters has a level. FriBidi returns the requested weak direction
+ * instead. */
 static int no_strong(const input *one) { return one->base != FRIBIDI_PAR_LTR && one->base != FRIBIDI_PAR_RTL && first_direction(one, 1) == 0; }
 
 /* P1: a separator ends a paragraph. If a list continues after a separator, our library still treats it as one
@@ -88,7 +89,7 @@ static int isolates_as_one_top(const input *one) {
     return joined(one, 1) || pair_over_isolates(one, greatest);
 }
 
-/* X1 to X8: whether an embedding, override or isolate overflows at base level 1 or 0. */
+/* X1 to X8: whether an embedding, override or isolate overflows at base level 0 or 1. */
 static int too_deep(const input *one) {
     static plain p;
     for (int base = 0; base < 2; base++) {

@@ -37,7 +37,7 @@ static void find_matches(const input *one, plain *p) {
 }
 
 /* Returns the level that P3 derives from the first strong type between a position and the isolate's end, or
- * -1 if there is none. If `joined` is set, also searches later isolates of its depth. */
+ * -1 if there is none. If `joined` is set, also searches later isolates of the same depth. */
 static int first_level(const input *one, const plain *p, int from, int joined) {
     int depth = 0, end = from > 0 && p->match[from - 1] >= 0 ? p->match[from - 1] : one->length;
     for (int k = from; k < (joined ? one->length : end); k++) {
@@ -107,9 +107,9 @@ static int is_neutral(FriBidiCharType type) {
 }
 static int is_any(FriBidiCharType type, FriBidiCharType a, FriBidiCharType b, FriBidiCharType c) { return type == a || type == b || type == c; }
 
-/* Applies W1 to a mark that begins an isolate, if this isolate is joined with the isolate before it. The marks after it
- * get the mark's new type. Unless this type is AN, the characters after these marks get it too, up to the
- * first one whose type differs from the last type of the isolate before. */
+/* Applies W1 to a mark at the start of an isolate that is joined with the isolate before it. The marks after
+ * this mark get its new type. Unless this type is AN, the characters after these marks get it too, as long as
+ * they have the last type of the previous isolate. */
 static void join_mark(sequence *s, int k, int after_arabic) {
     FriBidiCharType *t = s->type, before = t[k - 1];
     FriBidiCharType own = before == FRIBIDI_TYPE_EN && after_arabic ? FRIBIDI_TYPE_AN : s->opener[k] != FRIBIDI_TYPE_ON ? FRIBIDI_TYPE_NSM : FRIBIDI_TYPE_ON;
@@ -154,7 +154,7 @@ static void weak(sequence *s, int ways) {
     }
 }
 
-/* Returns the direction, L or R, as which N0 to N2 treat a type, or 0 for types without a direction. */
+/* Returns the direction of a type for N0 to N2: L, or R for R, EN and AN. Returns 0 for any other type. */
 static FriBidiCharType seen(FriBidiCharType type) {
     if (type == FRIBIDI_TYPE_LTR) return type;
     return is_any(type, FRIBIDI_TYPE_RTL, FRIBIDI_TYPE_EN, FRIBIDI_TYPE_AN) ? FRIBIDI_TYPE_RTL : 0;
@@ -167,7 +167,7 @@ static void set_bracket(const input *one, sequence *s, int k, FriBidiCharType ty
     for (int first = 1; ways & MERGED && marks && k < s->count && s->was[k] == FRIBIDI_TYPE_ON && (first || one->brackets[s->at[k]] == 0); k++) s->type[k] = type, first = 0;
 }
 
-/* Applies N0 to `many` runs, as if they were one sequence. */
+/* Applies N0 to the first `many` of `runs`, as if they were one sequence. */
 static void pair_brackets(const input *one, sequence *runs, int many, int ways) {
     int open[63], opened = 0, count = 0, closer[MOST], place[MOST];
     sequence *of[MOST];
@@ -206,8 +206,8 @@ static void pair_brackets(const input *one, sequence *runs, int many, int ways) 
     }
 }
 
-/* Returns the direction that N1 uses for a type next to neutral types. Returns NSM for an NSM that remains
- * after W1, which has no direction. */
+/* Returns the direction of a type for N1, as `seen` does. But an NSM that remains after W1 stays NSM, since
+ * it has no direction. */
 static FriBidiCharType side_of(FriBidiCharType type) { return type == FRIBIDI_TYPE_NSM ? type : seen(type); }
 
 static void resolve(sequence *s, int *levels) {
@@ -243,7 +243,8 @@ static void put(sequence *s, const input *one, const plain *p, int k) {
     s->count++;
 }
 
-/* Finds the isolate of each character: the last initiator before it whose isolate has not ended. With AS_ONE, stores the depth instead. */
+/* Stores the isolate of each character: the index of the last initiator before it whose isolate has not
+ * ended, or -1. With AS_ONE, stores the depth instead. */
 static void find_isolates(const input *one, const plain *p, int ways, int *isolate) {
     int open[MOST + 1] = {-1}, count = 0;
     for (int k = 0; k < one->length; k++) {
@@ -298,7 +299,7 @@ static void resolve_runs(const input *one, const plain *p, int base, int ways, i
     for (int r = 0; r < count; r++) resolve(&runs[r], levels);
 }
 
-/* Finds the levels after L1. Returns the greatest level before L1. */
+/* Stores the levels after L1. Returns the greatest level before L1. */
 static int plain_levels(const input *one, int ways, int *levels) {
     static plain p;
     int base = one->base == FRIBIDI_PAR_RTL, greatest, resets = 1;

@@ -6,9 +6,9 @@
  *     byte LINE CHARACTER                          prints the byte at a position
  *     text                                         prints the number of bytes, and the text
  *
- * The protocol's lines end only at LF, CR and CR LF. Paragraphs end at other separators too, so a line can have several
- * of them. A CHARACTER past the end of its line stands for the end of the line, and a LINE past the end of
- * the text for the end of the text. */
+ * The protocol's lines end only at LF, CR and CR LF. Paragraphs end at other separators too, so a line can
+ * have several paragraphs. A CHARACTER past the end of its line stands for the end of the line. A LINE past
+ * the end of the text stands for the end of the text. */
 #include <hordguli.h>
 #include <stdio.h>
 #include <stdlib.h>
@@ -74,7 +74,8 @@ static void note(const hordguli_damage *damage) {
     }
 }
 
-/* Returns the position in the text for a line and a number of UTF-16 code units in it. */
+/* Returns the position that is `units` UTF-16 code units after the start of a line. If the line or the text
+ * is shorter, returns its end. */
 static size_t position(size_t line, size_t units) {
     size_t first = 0, last, start, end;
     hordguli_position found;

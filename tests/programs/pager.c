@@ -39,7 +39,8 @@ static void *sure(void *block) {
     return block;
 }
 
-/* Adds a sequence to those of a look. Returns the index of the new look: 0 if the sequence resets all. */
+/* Adds a look that has the sequences of `look` and one more. Returns the index of the new look, or 0 if the
+ * sequence resets all attributes. */
 static uint32_t add_sequence(uint32_t look, const char *sequence, size_t length) {
     const char *old = looks[look];
     if (length <= 3 || memcmp(sequence, "\33[0m", 4) == 0) return 0;
@@ -49,7 +50,8 @@ static uint32_t add_sequence(uint32_t look, const char *sequence, size_t length)
     return (uint32_t)looks_count++;
 }
 
-/* Removes the sequences that end in `m` from a text, and stores its looks. Returns its new length. */
+/* Removes the sequences that end in `m` from a text, and stores the look of each character that remains.
+ * Returns the new length of the text. */
 static size_t take_sequences(char *text, size_t length) {
     size_t kept = 0, characters = 0;
     uint32_t look = 0;

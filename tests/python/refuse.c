@@ -1,4 +1,4 @@
-/* Makes a chosen allocation of libhordguli.so.1 fail, in a program that preloads this library (LD_PRELOAD). */
+/* A library to preload (LD_PRELOAD): makes a chosen allocation of libhordguli.so.1 fail. */
 #define _GNU_SOURCE
 #include <dlfcn.h>
 #include <stdlib.h>
@@ -6,7 +6,7 @@
 
 static long left;
 
-/* Makes only allocation `number` fail, counted from the next one, which is 1. With 0, none fails. */
+/* Makes only the `number`-th of the next allocations fail, or none if `number` is 0. */
 void refuse(long number);
 void refuse(long number) { left = number; }
 

@@ -424,13 +424,13 @@ def test_closed_default_tables_are_opened_again():
 
 # ---- What hordguli.harfbuzz needs ----
 
-# For each Debian package that `hordguli.harfbuzz` needs, statements after which Python fails as without it.
+# For each Debian package that `hordguli.harfbuzz` needs, statements that fail as if it were missing.
 MISSING = {
     "python3-gi": "sys.modules['gi'] = None",
     "gir1.2-harfbuzz-0.0": "gi.require_version = lambda *_: int('none')",
     "libharfbuzz-gobject0": "gi.require_version, harfbuzz.buffer_create = print, fail",
 }
-# Two ways in which HarfBuzz's library can be missing: there is no such file, or it is another library.
+# Two ways in which HarfBuzz's library can be missing: there is no such file, or the file is another library.
 LIBRARIES = "libnone.so.0", "libc.so.6"
 
 

@@ -36,7 +36,7 @@ def test_a_tab_is_a_piece():
 @settings(max_examples=400)
 @given(changed_texts, st.integers(1, 200), options)
 def test_pieces_cover_the_line_in_visual_order(start, width, option):
-    # (with these options, the characters of a piece may be in another order)
+    # (these options may change the visual order of a piece's characters)
     is_plain = not option & (Options.REORDER_NSM | Options.REORDER_CLUSTERS)
     with Session.open_measured(start, width, option | Options.tab_width(8)) as text:
         text.set_advances(0, [ord(c) % 7 for c in start])

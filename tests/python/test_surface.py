@@ -23,7 +23,7 @@ sys.path.insert(0, f"{TOP}/tools")
 from c_header import Header
 
 HEADER = Header("include/hordguli.h")
-# C functions that the package leaves out: it calls those that take a version, and `bytes.decode` decodes
+# C functions without a counterpart in Python: the package uses variants with a version, and `bytes.decode`
 NOT_OFFERED = {"hordguli_decode", *(f"hordguli_tables_{name}" for name in ("open_builtin", "open_folder", "read"))}
 RENAMED = {"changed_lines": "changed"}  # in C, the function has this name
 NAMES = {*hordguli.__all__} | {name for name, one in vars(hordguli).items() if name[0] != "_" and not inspect.ismodule(one)}

@@ -1,6 +1,7 @@
-/* Prints a checksum of all that the C library returns for random sessions. tests/rust/src/bin/answers.rs does the same
- * through the Rust crate, with the same pseudorandom numbers, so both programs must print the same output. Usage:
- * answers FIRST COUNT [print], for COUNT sessions from number FIRST on. With `print`, prints each value too. */
+/* Prints a checksum of all that the C library returns for random sessions. tests/rust/src/bin/answers.rs does
+ * the same through the Rust crate. Both programs use the same pseudorandom numbers, so they must print the
+ * same output. Usage: answers FIRST COUNT [print], for COUNT sessions from number FIRST on. With `print`,
+ * prints each value too. */
 #include <hordguli.h>
 #include <stdio.h>
 #include <stdlib.h>
@@ -252,7 +253,7 @@ static void reason_answers(hordguli_tables *chosen, uint32_t options, uint32_t d
         }
 }
 
-/* Adds the results of the calls without a session for a text to the checksum. */
+/* Makes the calls that need no session, for a text, and adds their results to the checksum. */
 static void row_answers(hordguli_tables *chosen, uint32_t options, uint32_t direction, const uint32_t *characters, size_t count) {
     static uint32_t visual[MOST], ltov[MOST], vtol[MOST];
     static uint8_t levels[MOST], row_levels[MOST], marks[MOST];

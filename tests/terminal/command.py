@@ -85,8 +85,8 @@ def limit(seconds):
 
 # ---- Parsing output ----
 
-# The sequences that the command may write: one with all attributes that differ from the default style, in
-# this order, or a link.
+# The sequences that the command may write: an SGR with all attributes that differ from the default style,
+# in this order, or a link.
 COLOUR = r"{0}[0-7]|{1}[0-7]|{0}8;5;\d+|{0}8;2;\d+;\d+;\d+"
 PARAMETERS = [
     ("bold", "1"), ("faint", "2"), ("italic", "3"), ("underline", r"4(?::[2-5])?"), ("blink", "[56]"), ("inverse", "7"), ("conceal", "8"), ("strike", "9"),

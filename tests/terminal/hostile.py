@@ -75,7 +75,7 @@ WITHOUT_DIRECTION = [
     ("a string after CR", lambda n: f"\r{E}]0;" + "u" * (n - 7) + f"{E}\\"),
 ]
 LOOKED_AT_FOR_DIRECTION = 65_536
-# Arguments, and whether they allow a paragraph with this number of characters.
+# Arguments, and whether the command accepts the texts of AFTER_CR with them, in spite of their length.
 WORDS = [([], True), (["-d", "file"], True), (["--strict"], False)]
 
 

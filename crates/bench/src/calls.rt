@@ -38,7 +38,7 @@ fn measure_on(rt: &HostRuntime, engine: Engine, text: &str, inserts: usize) -> R
     answer
 }
 
-// `start` is the time at which opening the session began. The session has just been opened.
+// Measures the calls to a session that has just been opened. `start` is when opening it began.
 fn measure_calls(
     rt: &HostRuntime,
     session: &mut Session<TreeStore<Kept>>,

@@ -97,8 +97,8 @@ pub fn open<S: ParagraphStore<Kept> + Drop>(
 /// Drops a session. No other function drops a session, to keep proofs fast (see `let_go`).
 pub fn close<S: ParagraphStore<Kept> + Drop>(_session: Session<S>) {}
 
-/// Inserts and deletes two characters at a time. Paragraphs are split about as often as joined, so the
-/// number and the lengths of the paragraphs change little.
+/// Makes `edits` edits at pseudorandom positions, each of which inserts or deletes two characters. Paragraphs
+/// are split about as often as joined, so their number and their lengths change little.
 pub fn make_edits<S: ParagraphStore<Kept>>(session: &mut Session<S>, edits: usize) {
     let mut numbers = Numbers::new();
     for _ in 0..edits {

@@ -14,7 +14,8 @@
 //! - `bench layouts UCD CHARACTERS` measures the time to lay out each of these paragraphs.
 //! - `bench marks UCD CHARACTERS` measures the time to find the break marks of such a paragraph, for several
 //!   kinds of text.
-//! - `bench fill UCD CHARACTERS` measures the times to lay out such a paragraph and to fill it again.
+//! - `bench fill UCD CHARACTERS` measures the times to lay out such a paragraph and to fill it again, for
+//!   several kinds of text and several widths.
 //! - `bench store KIND PARAGRAPHS TIMES` measures the time to make a store of PARAGRAPHS paragraphs, and the
 //!   average times of TIMES replacements and TIMES searches.
 #![tactic(auto)]
@@ -105,7 +106,7 @@ fn run_on_tables(rt: &HostRuntime, subject: Subject, folder: &str, words: &[Stri
     }
 }
 
-// Returns an argument, or an empty string if it is missing. The first argument is the program's name.
+// Returns an argument, or an empty string if it is missing. Argument 0 is the program's name.
 fn word(words: &[String], place: usize) -> &str {
     match words.get(place) {
         Some(word) => word.as_str(),

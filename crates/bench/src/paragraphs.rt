@@ -92,7 +92,7 @@ pub fn text_of(alloc: Global, words: &[&str], characters: usize) -> Result<Vec<c
     Ok(text)
 }
 
-/// Lays out a paragraph at a width in columns.
+/// Lays out a paragraph at a width in columns. Fails if the text is not one paragraph.
 pub fn lay_out(alloc: Global, engine: &mut Engine, text: Vec<char>, width: u16) -> Result<Laid>
     requires { 0 < width }
     ensures laid { IfOk result (IsLaidOut (rules_of engine.old)) }
@@ -108,7 +108,7 @@ pub fn lay_out(alloc: Global, engine: &mut Engine, text: Vec<char>, width: u16) 
     }
 }
 
-// Prints the minimum time in nanoseconds, the result of the analysis, and the name.
+// Analyses a paragraph several times. Prints the minimum time in nanoseconds, the result, and the name.
 fn measure(
     rt: &HostRuntime,
     subject: Subject,

@@ -61,7 +61,7 @@ fn measure_on<S: ParagraphStore<Kept> + Drop>(
     answer
 }
 
-// `start` is the time at which opening the session began. The session has just been opened.
+// Measures edits in a session that has just been opened. `start` is when opening it began.
 fn measure_edits<S: ParagraphStore<Kept>>(
     rt: &HostRuntime,
     session: &mut Session<S>,

@@ -1,5 +1,5 @@
--- The passes that find what N0 does with each character: the results of each pass, and the steps computed
--- from these results.
+-- The passes for N0 on a sequence: their results, and the step of each character, computed from these
+-- results.
 use Rattle.std.specs.Prelude.{◌≡◌, ℕ, zero, suc, ◌<◌, ◌==◌, nat_le, nat_lt, min, Bool, false, not, ◌&&◌, ◌||◌, List, length, map, slice_index, slice_index_or, slice_set, Option, Some, None, unwrap_or, if◌then◌else◌}
 use Rattle.std.specs.List.{list_any, range_with_len}
 use Rattle.ucd.specs.declared.bidi_class.BidiClass.{BidiClass}
@@ -21,8 +21,8 @@ use Rattle.bidi.specs.declared.brackets.Opener.{Opener}
 abbrev pub partners_of : List Pair → ℕ → List ℕ
 partners_of pairs len = map (λ k. unwrap_or (partner_in pairs k) len) (range_with_len 0 len)
 
--- the list of partners once the closing bracket at `place` has been handled, given the position on the stack
--- of the opening bracket that it matches, if any
+-- the list of partners once the closing bracket at `place` has been paired with the opening bracket at
+-- position m of the stack, if it matches one
 abbrev pub paired_by : Option ℕ → List Opener → List ℕ → ℕ → List ℕ
 paired_by (Some m) openers partners place =
     let opener = slice_index (map (λ (o : Opener). o.index) openers) m in
@@ -45,8 +45,8 @@ abbrev pub closer_by : List ℕ → ℕ → Option ℕ
 closer_by partners k =
     if nat_lt k (slice_index partners k) && nat_lt (slice_index partners k) (length partners) then Some (slice_index partners k) else None
 
--- what N0 decides for the pair that opens at a, given the index of its closing bracket, or `None` if no pair
--- opens there
+-- what N0 decides for the pair that opens at a; the last argument is the index of its closing bracket, or
+-- `None` if no pair opens at a
 abbrev pub decision_by : Bool → BidiClass → List BidiClass → ℕ → Option ℕ → Decision
 decision_by left sos types a (Some b) = record { case = Some (pair_case left sos types a b); inside = deciding left types a b }
 decision_by left sos types a None = record { case = None; inside = None }
@@ -58,25 +58,24 @@ direction_in left C1 = Some (side (not left))
 direction_in left C2 = Some (side left)
 direction_in left case = None
 
--- Whether the bracket at k has no pair because pairing stopped too early. `full` is the bracket at which
--- pairing stopped, and `openers` is the stack at that time.
+-- Whether pairing stopped before the bracket at k, which has no pair, could be paired. `full` is the bracket
+-- at which pairing stopped, and `openers` is the stack at that time.
 abbrev pub is_past_by : List Opener → Option ℕ → ℕ → Bool
 is_past_by openers (Some full) k = nat_le full k || is_open openers k
 is_past_by openers None k = false
 
--- why a bracket at k has no pair, given its bracket type and its type before N0, or `None` if the character
--- is not a bracket
+-- Why the bracket at k is unpaired, if it is, or `None` if the character at k is not a bracket. `kind` is its
+-- bracket type, and `type` is its type before N0.
 abbrev pub unpaired_by : List Opener → Option ℕ → BracketType → BidiClass → ℕ → Option BracketCase
 unpaired_by openers full kind type k =
     if is_bracket kind then Some (if is_other type then (if is_past_by openers full k then PastLimit else NoMatch) else NotOther) else None
 
--- whether the character at k is a bracket of a pair
+-- whether the character at k has a partner
 abbrev pub is_paired : List ℕ → ℕ → Bool
 is_paired partners k = nat_lt (slice_index partners k) (length partners)
 
 -- The step of the character at k, given the partners and the decision for each opening bracket. `unpaired` is
--- the case if the character is in no pair. `held` is the bracket whose direction N0 also gives to a mark at
--- k, if any.
+-- its case if it has no partner. `held` is the bracket whose direction N0 also gives to a mark at k, if any.
 abbrev pub step_given : List ℕ → (ℕ → Decision) → Option BracketCase → Bool → Option ℕ → ℕ → BracketStep
 step_given partners decision unpaired mark held k =
     if is_paired partners k
@@ -87,8 +86,8 @@ step_given partners decision unpaired mark held k =
     }
     else record { case = unpaired; partner = if mark then held else None; inside = None }
 
--- The bracket whose direction N0 also gives to a mark at k, if any. `sets` says which brackets get a
--- direction.
+-- The bracket whose direction N0 also gives to a mark at k, if any. `sets` tests whether the character at an
+-- index is a bracket that gets a direction.
 abbrev pub holder : (ℕ → Bool) → List Bool → ℕ → Option ℕ
 holder sets marks zero = None
 holder sets marks (suc k) = if sets k then Some k else (if slice_index_or marks k false then holder sets marks k else None)

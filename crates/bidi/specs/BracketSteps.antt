@@ -1,5 +1,6 @@
--- What N0 does with each character of one isolating run sequence: the case that applies to a bracket, the
--- other bracket of its pair, and the strong type that decides the case (UAX #9, BD14 to BD16 and N0).
+-- What N0 does with each character of one isolating run sequence (UAX #9, BD14 to BD16 and N0). For a
+-- bracket, this is the case that applies, the other bracket of its pair, and the strong type that decides the
+-- case.
 use Rattle.std.specs.Prelude.{ℕ, ◌+◌, ◌-◌, ◌==◌, nat_le, min, max, Bool, true, false, ◌&&◌, ◌||◌, not, List, [], ◌∷◌, length, map, fold, slice_index, Option, Some, None, is_some, if◌then◌else◌}
 use Rattle.std.specs.List.{range_with_len}
 use Rattle.ucd.specs.declared.bidi_class.BidiClass.{BidiClass}
@@ -13,7 +14,7 @@ use Rattle.bidi.specs.declared.bracket_steps.BracketCase.{BracketCase}
 use Rattle.bidi.specs.declared.bracket_steps.BracketCase.TheVariants.{B, C1, C2, D, NotOther, NoMatch, PastLimit}
 use Rattle.bidi.specs.declared.bracket_steps.BracketStep.{BracketStep}
 
--- the index of the other bracket of the pair if k is the index of a bracket of a pair
+-- if the bracket at k is in one of the pairs, the index of the other bracket of that pair
 abbrev pub partner_in : List Pair → ℕ → Option ℕ
 partner_in [] k = None
 partner_in (pair ∷ pairs) k = if pair.opener == k then Some pair.closer else (if pair.closer == k then Some pair.opener else partner_in pairs k)
@@ -35,8 +36,8 @@ has_direction case = false
 abbrev pub first_inside : Bool → List BidiClass → ℕ → ℕ → Option ℕ
 first_inside left types a b = least (λ k. is_toward left (class_at types k)) (a + 1) (b - (a + 1))
 
--- the index of the strong type that decides the case of a pair, if the pair contains one: the first one of
--- the embedding direction, or else the first one of the opposite direction
+-- The index of the strong type that decides the case of a pair, if the pair contains one. It is the first
+-- strong type of the embedding direction or, if there is none, the first of the opposite direction.
 abbrev pub deciding : Bool → List BidiClass → ℕ → ℕ → Option ℕ
 deciding left types a b = if stands left types a b then first_inside left types a b else first_inside (not left) types a b
 
@@ -47,13 +48,13 @@ resolved_before embedding sos marks closer types a = fold (λ current i. pair_st
 -- the brackets of a sequence, given its characters and their types before N0
 module _ (bracket_of : ℕ → Option Bracket) (characters : List ℕ) (types : List BidiClass) where
   -- BD16: whether pairing stopped before it could find a pair for the bracket at k. `full` is the opening
-  -- bracket at which it stopped, if it did. The brackets from there on get no pair, and neither do the
-  -- opening brackets that are still live there.
+  -- bracket at which it stopped, if it did. Neither the brackets from there on nor the opening brackets that
+  -- are still live there get a pair.
   abbrev pub is_past : Option ℕ → ℕ → Bool
   is_past (Some full) k = nat_le full k || is_live bracket_of characters types (pairs_before bracket_of characters types full) k
   is_past None k = false
 
-  -- why a bracket at k has no pair, or `None` if the character is not a bracket
+  -- why the bracket at k is unpaired, if it is, or `None` if the character at k is not a bracket
   abbrev pub unpaired_case : ℕ → Option BracketCase
   unpaired_case k =
       if is_some (bracket_of (slice_index characters k))
@@ -78,7 +79,7 @@ module _ (bracket_of : ℕ → Option Bracket) (embedding sos : BidiClass) (char
   case_at k = case_with k (partner_in (pairs_of bracket_of characters types) k)
 
   -- the bracket whose direction N0 also gives to the mark at k: the nearest bracket before k that gets a
-  -- direction, if only marks follow it up to k
+  -- direction, if only marks are between it and k
   abbrev pub set_by : ℕ → Option ℕ
   set_by k = greatest (λ p. has_direction (case_at p) && is_set_with (map is_mark explicit) p k) k
 

@@ -115,15 +115,15 @@ pair_direction left sos types a b =
     if stands left types a b then Some (side left)
     else (if stands (not left) types a b then Some (side (if agree left (is_left (context sos types a)) then left else not left)) else None)
 
--- whether the character at k is the bracket at p or one of the marks directly after it; a mark is a character
--- whose type was NSM before W1
+-- Whether the character at k is the bracket at p or one of the marks directly after it. A mark is a character
+-- whose type was NSM before W1.
 abbrev pub is_set_with : List Bool → ℕ → ℕ → Bool
 is_set_with marks p k = (p == k) || (nat_lt p k && list_all (λ mark. mark) (slice_range marks (p + 1) (k + 1)))
 
 abbrev pub set_with : List Bool → BidiClass → List BidiClass → ℕ → List BidiClass
 set_with marks direction types p = map (λ k. if is_set_with marks p k then direction else class_at types k) (range_with_len 0 (length types))
 
--- the types after both brackets of a pair, and the marks directly after them, have been set to the pair's
+-- the types that result when both brackets of a pair, and the marks directly after them, get the pair's
 -- direction, if it has one
 abbrev pub set_pair : List Bool → List BidiClass → ℕ → ℕ → Option BidiClass → List BidiClass
 set_pair marks types a b (Some direction) = set_with marks direction (set_with marks direction types a) b

@@ -23,8 +23,8 @@ pub record AreNested (types : List BidiClass) (closers : List ℕ) : Type 0 wher
   pub apart : (a b : ℕ) → a < b → b < length closers → slice_index closers a < length closers → slice_index closers b < length closers
       → (slice_index closers a < b) ⊎ (slice_index closers b < slice_index closers a)
 
--- the list of closers for the program's list of opening brackets, in which an unpaired bracket has the closer
--- `len`
+-- the list of closers for the program's list of opening brackets; in both lists, an unpaired bracket has the
+-- closer `len`
 
 abbrev pub as_pair : BracketPair → Pair
 as_pair pair = record { opener = pair.opener; closer = pair.closer }
@@ -59,8 +59,8 @@ abbrev pub left_by : {T : Type 0} → Option ℕ → List T → List T
 left_by (Some m) openers = take m openers
 left_by None openers = openers
 
--- the list of opening brackets once the closing bracket at `place` has been handled, given the position m on
--- the stack of the opener that it matches, if any
+-- the list of opening brackets once the closing bracket at `place` has been paired with the opener at
+-- position m of the stack, if it matches one
 abbrev pub closed_by : Option ℕ → List Opener → List BracketPair → ℕ → List BracketPair
 closed_by (Some m) openers pairs place =
     slice_set pairs (index_of openers m) (record { opener = opener_at pairs (index_of openers m); closer = place })

@@ -34,9 +34,9 @@ pub record AreOfOneKind (tables : Tables) (c d : ℕ) : Type 0 where
   pub first : bracket_of tables c ≡ None
   pub second : bracket_of tables d ≡ None
 
--- Replacing a character with one of the same kind changes no level. Suppose that the class of a character can
--- be doubled. If another one of the same kind is inserted directly after or before it, both have the level
--- that it had. No other level changes, nor does the paragraph level.
+-- Replacing a character with one of the same kind changes no level. Let c be a character whose class can be
+-- doubled. If a character of the same kind is inserted directly after or before c, both get the level that c
+-- had. No other level changes, nor does the paragraph level.
 pub record DoublingKeepsLevels : Type 0 where
   pub replaced : (tables : Tables) (before after : List ℕ) (c d : ℕ) (base : Base) → AreOfOneKind tables c d
       → levels_of tables (before ++ d ∷ after) base ≡ levels_of tables (before ++ c ∷ after) base

@@ -8,7 +8,7 @@ use Rattle.ucd.specs.Classes.{class_at, is_initiator, is_pdi, is_separator}
 use Rattle.bidi.specs.Base.{match_of, first_strong_level}
 use Rattle.bidi.specs.Brackets.{greatest}
 
--- the classes between the initiator at k and its match, or all classes after it if it has no match
+-- the classes between the initiator at k and its match, or all classes after the initiator if it has no match
 abbrev pub span_of : List BidiClass → ℕ → List BidiClass
 span_of classes k = slice_range classes (k + 1) (unwrap_or (match_of classes k) (length classes))
 
@@ -94,7 +94,7 @@ depth base [] = 0
 depth base (opener ∷ outer) = if (inside base (opener ∷ outer)).is_void then depth base outer else depth base outer + 1
 
 -- The index of the innermost opener that is open before index k and does not overflow, or `None` if there is
--- none. It is the last index before which fewer openers that do not overflow are open than before k.
+-- none. It is the last index i such that fewer openers that do not overflow are open before i than before k.
 abbrev pub opener_before : ℕ → List BidiClass → ℕ → Option ℕ
 opener_before base classes k = greatest (λ i. nat_lt (depth base (open_chain classes i)) (depth base (open_chain classes k))) k
 

@@ -52,8 +52,8 @@ reason_in kept sequence k = option_map (λ step. record {
   step = moved kept sequence.places step;
 }) (slice_get sequence.steps k)
 
--- what the rules W1 to I2 do with the kept character at index q, in the first sequence that contains the
--- character, if one does
+-- what the rules W1 to I2 do with the kept character at index q in the first sequence that contains it, or
+-- `None` if none does
 abbrev pub resolved_in : List ℕ → List Sequence → ℕ → Option SequenceReason
 resolved_in kept [] q = None
 resolved_in kept (sequence ∷ later) q = unwrap_or (option_map (reason_in kept sequence) (index_of sequence.places q)) (resolved_in kept later q)

@@ -60,8 +60,8 @@ IsInnermost openers status = (base : ℕ) (chain : List BidiClass) → Holds bas
 abbrev pub IsDepth : Openers → ℕ → Type 0
 IsDepth openers number = (base : ℕ) (chain : List BidiClass) → Holds base openers chain → number ≡ depth base chain
 
--- the indices of the openers that do not overflow, the outermost first, after the character at k; `depth` is
--- the number of these openers
+-- The indices of the openers that are open after the character at k and do not overflow, the outermost first.
+-- `indices` lists those before it, and `depth` is their new number.
 abbrev pub updated : List ℕ → ℕ → ℕ → List ℕ
 updated indices depth k = if nat_lt (length indices) depth then indices ++ k ∷ [] else take depth indices
 

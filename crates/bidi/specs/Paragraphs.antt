@@ -19,7 +19,7 @@ use Rattle.bidi.specs.declared.sequence_levels.Brackets.{Brackets}
 abbrev pub AreFor : Brackets → ℕ → Type 0
 AreFor brackets n = brackets.has_any ≡ true → length brackets.types.now ≡ n
 
--- `brackets` holds the bracket types of a text of n characters, or states that none of them is a bracket
+-- `brackets` holds the bracket types of a text of n characters, or states that the text contains no bracket
 pub record AreBracketsOf (brackets : Brackets) (n : ℕ) (look : ℕ → Option Bracket) (text : List ℕ) : Type 0 where
   pub size : length text ≡ n
   pub types : brackets.has_any ≡ true → brackets.types.now ≡ bracket_types look text
@@ -29,8 +29,8 @@ pub record AreBracketsOf (brackets : Brackets) (n : ℕ) (look : ℕ → Option 
 abbrev pub OfAllTexts : Brackets → ℕ → ((ℕ → Option Bracket) → List ℕ → Type 0) → Type 0
 OfAllTexts brackets n holds = (look : ℕ → Option Bracket) (text : List ℕ) → AreBracketsOf brackets n look text → holds look text
 
--- `p` holds the class, level and type of each kept character, the bracket types if it has brackets, and the
--- matches of all initiators
+-- `p` holds the class, level and type of each kept character, their bracket types if any of them is a
+-- bracket, and the matches of all initiators
 pub record IsReady (p : Paragraph) : Type 0 where
   pub stayed : HasAll p.stayed.now
   pub matches : p.matches.now ≡ matches_of p.stayed.now.classes.items

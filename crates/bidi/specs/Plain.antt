@@ -19,8 +19,7 @@ is_plain FSI = false
 is_plain PDI = false
 is_plain class = true
 
--- Whether a character is flat: it does not raise any level above 0. In a paragraph of flat characters at
--- paragraph level 0, all levels are 0.
+-- Whether a character is flat. In a paragraph of flat characters at paragraph level 0, all levels are 0.
 abbrev pub is_flat : BidiClass → Bool
 is_flat R = false
 is_flat AL = false
@@ -36,8 +35,8 @@ is_flat FSI = false
 is_flat PDI = false
 is_flat class = true
 
--- Whether a character is flat in a right-to-left paragraph: it does not raise any level above 1. In a
--- paragraph of such characters at paragraph level 1, all levels are 1.
+-- Whether a character is flat in a right-to-left paragraph. In a paragraph of such characters at paragraph
+-- level 1, all levels are 1.
 abbrev pub is_flat_rtl : BidiClass → Bool
 is_flat_rtl L = false
 is_flat_rtl EN = false
@@ -53,7 +52,7 @@ is_flat_rtl FSI = false
 is_flat_rtl PDI = false
 is_flat_rtl class = true
 
--- whether a character does not raise any level above the paragraph level, 0 or 1
+-- whether a character is flat in a paragraph at this level, 0 or 1
 abbrev pub is_flat_at : ℕ → BidiClass → Bool
 is_flat_at level class = if level == 0 then is_flat class else is_flat_rtl class
 

@@ -8,8 +8,8 @@ use Rattle.bidi.specs.LevelReasons.{index_of, resolved_in}
 use Rattle.bidi.specs.Reasons.{explicit_steps, index_from, Sequence}
 use Rattle.bidi.specs.Sequences.{stayed}
 
--- `new` is `old` after `value k` has been written at the index given by item k of `items`, for each k from
--- `from` on in descending order
+-- `new` is `old` after these writes: for each k from `from` on, in descending order, `value k` at the index
+-- that item k of `items` gives
 pub record IsFilled {X : Type 0} (items : List ℕ) (value : ℕ → X) (old : List X) (from : ℕ) (new : List X) : Type 0 where
   pub size : length new ≡ length old
   pub each : (q : ℕ) (other : X) → q < length old

@@ -39,8 +39,8 @@ abbrev pub explicit_steps : ℕ → List BidiClass → List ExplicitStep
 explicit_steps base classes = map (explicit_step base classes) (range_with_len 0 (length classes))
 
 module _ {T : Type 0} (test : T → Bool) where
-  -- the index of the nearest item that passes the test, if any does, in a list of the items before an index,
-  -- nearest first
+  -- the index of the nearest item that passes the test, if any does; the list holds the items before some
+  -- index, nearest first
   abbrev pub index_before : List T → Option ℕ
   index_before [] = None
   index_before (item ∷ before) = if test item then Some (length before) else index_before before
@@ -81,8 +81,8 @@ abbrev pub numbered : {T U : Type 0} → (ℕ → T → U) → ℕ → List T �
 numbered f k [] = []
 numbered f k (item ∷ items) = f k item ∷ numbered f (suc k) items
 
--- what each rule does with the character at index k of a sequence, given its explicit types, its types after
--- N0 and what N0 does
+-- What each rule does with the character at index k of a sequence. `types` holds the explicit types, `paired`
+-- the types after N0, and `bracket` what N0 does with each character.
 module _ (level : ℕ) (sos : BidiClass) (types paired : List BidiClass) (bracket : ℕ → BracketStep) where
   abbrev pub sequence_step : ℕ → NeutralStep → SequenceStep
   sequence_step k neutral = record {
@@ -110,8 +110,8 @@ sequence_steps bracket_of level sos eos characters types =
 abbrev pub levels_in : List SequenceStep → List ℕ
 levels_in steps = map (λ step. step.level) steps
 
--- a sequence; `places` holds the indices of its characters in the list of characters that X9 keeps, and
--- `steps` what the rules W1 to I2 do with each of them
+-- A sequence. `places` holds the indices of its characters in the list of characters that X9 keeps, and
+-- `steps` what the rules W1 to I2 do with each character.
 pub record Sequence : Type 0 where
   pub places : List ℕ
   pub level : ℕ
@@ -122,7 +122,8 @@ pub record Sequence : Type 0 where
 abbrev pub sequence_of : SequenceReasons → Sequence
 sequence_of found = record { places = found.places.items; level = found.level; sos = found.sos; eos = found.eos; steps = found.steps.items }
 
--- The sequences of a paragraph. The lists have one item for each character that X9 keeps, as in `resolved`.
+-- The sequences of a paragraph, and what the rules do with them. As in `resolved`, the lists have one item
+-- for each character that X9 keeps.
 module _ (bracket_of : ℕ → Option Bracket) (base : ℕ) (characters : List ℕ) (classes : List BidiClass) (levels : List ℕ) (types : List BidiClass) where
   abbrev pub sequence_reasons : List ℕ → Sequence
   sequence_reasons sequence = record {

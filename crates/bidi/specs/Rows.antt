@@ -28,12 +28,12 @@ pub record AreLevelsSoFar (level : ℕ) (sos eos : BidiClass) (types : List Bidi
 abbrev pub is_opposite : ℕ → BidiClass → Bool
 is_opposite level type = not (agree (is_left (direction level)) (is_left type))
 
--- the level of neutrals between types of the same direction; `opposite` says whether it is opposite to the
--- embedding direction
+-- the level of neutrals between types of the same direction; `opposite` says whether that direction is
+-- opposite to the embedding direction
 abbrev pub raised : ℕ → Bool → ℕ
 raised level opposite = if opposite then level + 1 else level
 
--- how far the level of neutrals next to a type is above the sequence's level, if the types on both sides have the
+-- how many levels neutrals next to a type are above the sequence's level if the types on both sides have the
 -- same direction
 abbrev pub beside : ℕ → BidiClass → ℕ
 beside level type = if is_opposite level type then 1 else 0

@@ -4,15 +4,15 @@ use Rattle.std.specs.Str.{chars}
 use Rattle.ucd.specs.Separators.{may_separate}
 use Rattle.bidi.specs.Cuts.{SplitsAt, paragraphs}
 
--- whether a character of class B in Unicode's files may begin with the bytes a, b and c
+-- whether the bytes a, b and c begin with a character for which `may_separate` is true
 abbrev pub may_lead : ℕ → ℕ → ℕ → Bool
 may_lead a b c = nat_lt a 32 || ((a == 194 && b == 133) || (a == 226 && (b == 128 && c == 169)))
 
--- whether a character of class B in Unicode's files may begin at index k of `bytes`
+-- whether such a character begins at index k of `bytes`
 abbrev pub leads_at : List ℕ → ℕ → Bool
 leads_at bytes k = may_lead (slice_index bytes k) (slice_index bytes (k + 1)) (slice_index bytes (k + 2))
 
--- there is a boundary only after characters that may be separators in Unicode's files
+-- there is a boundary only after characters for which `may_separate` is true
 abbrev pub AreUsual : (ℕ → ℕ → Bool) → Type 0
 AreUsual is_cut = (a b : ℕ) → a < 1114112 → may_separate a ≡ false → is_cut a b ≡ false
 

@@ -58,7 +58,7 @@ abbrev pub lengthens : Row → BidiClass → Bool
 lengthens Terminators ET = true
 lengthens row type = false
 
--- whether a type is the number that turns the waiting types into numbers (W4 and W5)
+-- whether a type is a number that turns the waiting types into numbers (W4 and W5)
 abbrev pub completes : Row → BidiClass → Bool
 completes EuropeanSeparator EN = true
 completes ArabicSeparator AN = true

@@ -42,7 +42,7 @@ strong_number _ = 2
 abbrev pub state_of : Row → BidiClass → ℕ
 state_of run strong = run_number run * 3 + strong_number strong
 
--- the type of a character after W2 and W3
+-- the type after W2 and W3, given the last strong type and the type after W1
 abbrev pub turned : BidiClass → BidiClass → BidiClass
 turned strong class = w3_type (digit_type strong class)
 
@@ -62,7 +62,7 @@ next_by state class =
 abbrev pub value_by : ℕ → BidiClass → BidiClass
 value_by state class = written (run_at state) (is_left (strong_at state)) (turned (strong_at state) class)
 
--- where the pending types of a state start, or the index itself if none are pending
+-- where the pending types start: at `start` if any are pending in this state, or else at `at`
 abbrev pub pending : ℕ → ℕ → ℕ → ℕ
 pending state start at = if waits (run_at state) then start else at
 

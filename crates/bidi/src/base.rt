@@ -23,7 +23,7 @@ pub enum Base {
 impl Default for Base {
     ghost use Rattle.bidi.specs.declared.base.Base.TheVariants.{WeakLtr};
 
-    // The command line has the same default.
+    // The command-line programs have the same default.
     ghost is_default = { λ base. base ≡ WeakLtr };
 
     fn default() -> Base {

@@ -131,7 +131,7 @@ fn is_open(openers: &[Opener], k: usize) -> bool
     false
 }
 
-// Returns whether the unpaired bracket at `k` has no pair because pairing stopped before it was paired.
+// Returns whether pairing stopped before the bracket at `k`, which has no pair, could be paired.
 fn is_past(openers: &[Opener], full: Option<usize>, k: usize) -> bool
     ensures { result ≡ is_past_by openers.now full k }
 {
@@ -182,7 +182,8 @@ fn unpaired_cases(
     Ok(list)
 }
 
-// Returns the index of the first strong type of a direction inside a pair, or `None` if there is none.
+// Returns the index of the first strong type with the given direction inside a pair, or `None` if none has
+// it.
 fn first_inside(types: &[BidiClass], left: bool, opener: usize, closer: usize) -> Option<usize>
     requires order { opener < closer }
     requires within { closer ≤ length types.now }
@@ -244,8 +245,8 @@ fn direction_in(left: bool, case: BracketCase) -> Option<BidiClass>
     }
 }
 
-// Finds the case of the pair that opens at an index, if there is one. Sets the types of its brackets, and of
-// the marks after them, if the pair gets a direction.
+// Returns what N0 decides for the pair that opens at an index, if there is one. If the pair gets a direction,
+// sets the types of its brackets, and of the marks after them.
 fn resolve_at(
     types: &mut [BidiClass],
     explicit: &[BidiClass],
@@ -279,7 +280,7 @@ fn resolve_at(
 }
 
 // Resolves the pairs in the order of their opening brackets. Returns what N0 decides for the pair that opens
-// at each index. `types` holds the types before N0, and then those after it.
+// at each index. `types` holds the types before N0 at first, and the types after N0 on return.
 fn resolve_all(
     alloc: Global,
     types: &mut [BidiClass],
@@ -310,7 +311,8 @@ fn has_direction(case: Option<BracketCase>) -> bool
     )
 }
 
-// Returns the bracket whose direction N0 also gives to the next character if that is a mark, or `None`.
+// Returns the bracket whose direction N0 also gives to the character after `k` if it is a mark, or `None` if
+// there is no such bracket.
 fn held_after(
     case: Option<BracketCase>,
     explicit: BidiClass,
@@ -328,7 +330,7 @@ fn held_after(
     }
 }
 
-// Returns the step of the character at an index.
+// Returns what N0 does with the character at an index.
 fn step_at(
     partners: &[usize],
     decisions: &[Decision],
@@ -360,8 +362,8 @@ fn step_at(
     }
 }
 
-// Returns the steps, given the partner of each bracket, what N0 decides for each pair, and why each other
-// bracket has no pair.
+// Returns the step of each character, given the partner of each bracket, what N0 decides for each pair, and
+// the case of each unpaired bracket.
 fn gather_steps(
     alloc: Global,
     explicit: &[BidiClass],
@@ -388,8 +390,8 @@ fn gather_steps(
     Ok(list)
 }
 
-/// Returns what N0 does with each character of a sequence, given the bracket types of the characters, their
-/// types before W1 (`explicit`) and their types before N0 (`types`).
+/// Returns what N0 does with each character of a sequence. `kinds` holds the bracket types of the characters,
+/// `explicit` their types before W1, and `types` their types before N0.
 pub fn bracket_steps(
     alloc: Global,
     kinds: &[BracketType],

@@ -22,7 +22,7 @@ pub enum BracketType {
 impl Default for BracketType {
     ghost use Rattle.bidi.specs.declared.bracket_type.BracketType.TheVariants.{Other};
 
-    // Most characters are not brackets.
+    // `Other`, because most characters are not brackets.
     ghost is_default = { λ bracket. bracket ≡ Other };
 
     fn default() -> BracketType {
@@ -53,7 +53,7 @@ pub(crate) fn is_bracket(bracket: BracketType) -> bool
     !matches!(bracket, BracketType::Other)
 }
 
-/// An item that may be a bracket, in a list that is searched for brackets.
+/// An item that may be a bracket. `next_bracket` searches lists of such items.
 pub(crate) trait MaybeBracket {
     ghost is_one: { Self → Bool };
 
@@ -95,7 +95,8 @@ pub(crate) fn next_bracket<T: MaybeBracket>(items: &[T], from: usize) -> usize
 // The number of items that are tested together.
 const AT_ONCE: usize = 8;
 
-// Skips groups of items that contain no bracket, starting at `from`. Returns the index after them.
+// Skips groups of items that contain no bracket, starting at `from`. Returns the index after the last such
+// group.
 fn after_groups<T: MaybeBracket>(items: &[T], from: usize) -> usize
     requires { from ≤ length items.now }
     ensures reached { from ≤ result }

@@ -77,8 +77,8 @@ pub(crate) fn matching(openers: &[Opener], closer: u32) -> Option<usize>
     None
 }
 
-// Pairs the closing bracket at `place` with the newest opening bracket that it matches, if any, and removes
-// that bracket and all newer ones from the stack. Returns whether a match was found.
+// Pairs the closing bracket at `place` with the newest opening bracket that it matches, if any. Removes that
+// bracket and all newer ones from the stack. Returns whether a match was found.
 fn close(openers: &mut Vec<Opener>, pairs: &mut [BracketPair], closer: u32, place: usize) -> bool
     requires { (m : ℕ) → m < length openers.old.items → index_of openers.old.items m < length pairs.old }
     ensures openers { openers.new.items ≡ left_by (newest openers.old.items closer) openers.old.items }
@@ -255,9 +255,9 @@ fn resolve_brackets(
     }
 }
 
-// Returns whether a strong type of a direction is inside a pair. Moves `next` to the first index inside the
-// pair that had such a type before N0. If there is none, moves `next` to the closing bracket, or leaves it
-// past that bracket.
+// Returns whether a strong type with the given direction is inside a pair. Moves `next` to the first index
+// inside the pair that had such a type before N0. If there is none, moves `next` to the closing bracket, or
+// leaves it past that bracket.
 fn stands_inside(
     types: &[BidiClass],
     before: &[BidiClass],
@@ -360,7 +360,8 @@ fn is_direction(class: BidiClass) -> bool
     )
 }
 
-// Sets the types of a pair's brackets, and of the marks after them, if the pair has a direction.
+// If the pair has a direction, sets the types of its brackets, and of the marks after them, to that
+// direction.
 pub(crate) fn set_pair(
     types: &mut [BidiClass],
     explicit: &[BidiClass],

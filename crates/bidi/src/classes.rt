@@ -1,4 +1,4 @@
-//! Kinds of bidi classes.
+//! Tests for kinds of bidi classes.
 ghost use Rattle.std.specs.Prelude.{◌≡◌};
 ghost use Rattle.ucd.specs.Classes.{is_initiator, is_pdi};
 ghost use Rattle.ucd.specs.Classes.{is_removed};

@@ -180,8 +180,9 @@ impl Openers {
         }
     }
 
-    // Opens an embedding, override or isolate, or closes an embedding or override, if the character does so.
-    // The character's own state is read before this, because an isolate initiator is outside its isolate.
+    // Updates the state for a character that opens an embedding, override or isolate, or closes an embedding
+    // or override. The character's own state is read before this call, because an isolate initiator is
+    // outside its isolate.
     pub fn pass(&mut self, class: BidiClass)
         requires { AreOpeners self.old }
         ensures { Follows self.old self.new
@@ -211,7 +212,8 @@ fn pop_isolate(statuses: &mut ArrayVec<Status, MAX_ENTRIES>)
     }
 }
 
-// Returns the next odd or even level above a level, as the opener requires (X2 to X5b).
+// Returns the lowest level above `level` that is odd for a right-to-left opener, or even for a left-to-right
+// one (X2 to X5b).
 fn level_above(opener: BidiClass, level: u8) -> u8
     requires { level ≤ 125 }
     ensures { result ≡ level_above opener level }

@@ -52,7 +52,7 @@ fn step_in(status: Status, opener: Option<usize>, class: BidiClass, base: u8) ->
     }
 }
 
-// Returns the last index, or `None` if the list is empty.
+// Returns the last index in a list, or `None` if the list is empty.
 fn last(indices: &[usize]) -> Option<usize>
     ensures { result ≡ (if length indices.now == 0 then None
         else Some (slice_index indices.now (length indices.now - 1))) }
@@ -63,8 +63,8 @@ fn last(indices: &[usize]) -> Option<usize>
     }
 }
 
-// Updates the indices of the openers that are open and do not overflow. `depth` is the number of these
-// openers after the character at `k`, which opens at most one.
+// Updates the indices of the openers that are open and do not overflow. `depth` is their number after the
+// character at `k`: at most one more than before it.
 fn update(indices: &mut Vec<usize>, depth: usize, k: usize) -> Result<(), AllocError>
     ensures { OnOk result (indices.new.items ≡ updated indices.old.items depth k) }
 {

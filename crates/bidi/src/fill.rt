@@ -28,8 +28,8 @@ fn fill_more<T: Copy>(items: &mut [T], start: usize, end: usize, value: T)
     }
 }
 
-/// Appends items to a reused list until it has at least `len` items. Never shortens the list: a list that is
-/// shortened for one paragraph has to be filled again for the next one.
+/// Appends items to a reused list until it has at least `len` items. Never shortens the list: if it did so
+/// for a short paragraph, it would have to fill the list again for a longer one.
 pub(crate) fn lengthen<T: Copy>(items: &mut Vec<T>, len: usize, value: T) -> Result<(), AllocError>
     ensures { OnOk result (len ≤ length items.new.items) }
 {

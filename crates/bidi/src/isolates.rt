@@ -86,7 +86,7 @@ fn close(found: &mut [usize], pending: &mut Vec<usize>, at: usize)
 }
 
 /// Writes the classes of a paragraph to `acting`, with each FSI replaced by LRI or RLI (X5c). Returns whether
-/// `isolates` contains the matches of the initiators, which the replacement does not change.
+/// `isolates` now holds the matches of the initiators. The replacement does not change the matches.
 pub(crate) fn direct(
     classes: &[BidiClass],
     isolates: &mut Isolates,
@@ -138,8 +138,8 @@ fn acting_class(classes: &[BidiClass], matches: &[usize], at: usize) -> BidiClas
     }
 }
 
-// Returns the level of the first strong character between an initiator and its match, or the end of the list
-// if it has no match. Skips each nested isolate in one step. Returns `None` if there is no such character.
+// Returns the level of the first strong character inside an initiator's isolate, or `None` if there is none.
+// An isolate without a match extends to the end of the list. Skips each nested isolate in one step.
 fn first_strong_level(classes: &[BidiClass], matches: &[usize], initiator: usize) -> Option<u8>
     requires within { initiator < length classes.now }
     requires opens { is_initiator (class_at classes.now initiator) ≡ true }

@@ -84,7 +84,7 @@ fn moved_index(kept: &[usize], places: &[usize], k: Option<usize>) -> Option<usi
     }
 }
 
-// Returns a step of a sequence with positions in the paragraph in place of its indices in the sequence.
+// Converts the indices in a step, which refer to the sequence, to positions in the paragraph.
 fn moved(kept: &[usize], places: &[usize], step: SequenceStep) -> SequenceStep
     ensures { result ≡ moved kept.now places.now step }
 {
@@ -161,7 +161,7 @@ fn indices_of(alloc: Global, items: &[usize], len: usize) -> Result<Vec<Option<u
     Ok(list)
 }
 
-// Returns what the rules do with each kept character.
+// Returns what the rules do with each kept character, or `None` for a character in no sequence.
 fn resolved_in(
     alloc: Global,
     kept: &[usize],
@@ -178,9 +178,10 @@ fn resolved_in(
     Ok(list)
 }
 
-// Lists with an item for each character, except `resolved`, which has one for each kept character. In
-// `classes`, each FSI is replaced by LRI or RLI. `initiators` has the initiator that each PDI matches, and
-// `indices` the index of each kept character among the kept characters.
+// The lists from which the reasons are assembled. Each has an item for each character, except `resolved`,
+// which has one for each kept character. In `classes`, each FSI is replaced by LRI or RLI. `initiators` has
+// the initiator that each PDI matches, and `indices` the index of each kept character among the kept
+// characters.
 #[derive(Clone, Copy)]
 struct Parts<'a> {
     classes: &'a [BidiClass],
@@ -236,8 +237,8 @@ fn resolved_at(parts: &Parts<'_>, p: usize) -> Option<SequenceReason>
     }
 }
 
-// If X9 removes characters of this class, returns the character that determines the level: `before`, the last
-// kept character before this one. Otherwise, returns `None`.
+// Returns the character that determines the level of a character that X9 removes: `before`, the last kept
+// character before it. Returns `None` for a character that X9 keeps.
 fn level_from(class: BidiClass, before: Option<usize>) -> Option<usize>
     ensures { result ≡ (if is_removed class then before else None) }
 {
@@ -296,9 +297,8 @@ fn list_of(
     Ok(list)
 }
 
-/// Returns the reasons for the levels of one paragraph, with one item for each character. The text need not
-/// be a single paragraph: any list of characters is allowed. The time is proportional to the length of the
-/// text.
+/// Returns the reason for the level of each character of one paragraph. The text need not be a single
+/// paragraph: any list of characters is allowed. Needs time proportional to the length of the text.
 pub fn level_reasons(
     alloc: Global,
     tables: &Tables,

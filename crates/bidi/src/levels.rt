@@ -67,8 +67,8 @@ impl Lists {
     }
 }
 
-// Finds the levels of the characters that X9 keeps. If `is_found` is true, the matches of the isolate
-// initiators are already known.
+// Finds the levels of the characters that X9 keeps. If `is_found` is true, `lists` already holds the matches
+// of the isolate initiators.
 fn resolve_stayed(
     brackets: &Brackets<'_>,
     base: u8,
@@ -173,7 +173,7 @@ fn are_still_found(is_found: bool, stayed: &[BidiClass], acting: &[BidiClass]) -
 }
 
 /// Finds the levels of a paragraph (X1 to I2) from its classes, in which each FSI is already replaced by LRI
-/// or RLI. If `is_found` is true, the matches of its isolate initiators are already known.
+/// or RLI. If `is_found` is true, `work` already holds the matches of the paragraph's isolate initiators.
 pub(crate) fn resolve_acting(
     paragraph: &Classified<'_>,
     is_found: bool,

@@ -24,7 +24,7 @@ pub(crate) fn resolve_neutral(
     requires bounded { level ≤ 125 }
     ensures { levels.new ≡ map (implicit_level level) (neutral (direction level) sos eos types.now) }
 {
-    // How far neutrals are raised if the next non-neutral type has the same direction as the last one.
+    // How many levels neutrals rise if the next non-neutral type has the same direction as the last one.
     let mut rise = rise_beside(level, sos);
     let mut at = 0;
     while at < types.len() {
@@ -57,7 +57,7 @@ fn lower_run(types: &[BidiClass], level: u8, end: usize, levels: &mut [u8])
     }
 }
 
-// Returns how far neutrals are raised if the types on both sides have the direction of `class`.
+// Returns how many levels neutrals rise if the types on both sides have the direction of `class`.
 fn rise_beside(level: u8, class: BidiClass) -> u8
     ensures { result ≡ beside level class }
 {

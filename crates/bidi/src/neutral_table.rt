@@ -13,8 +13,8 @@ pub static TURNS: [u8; 2 * ROW_LEN] = [
     2, 0, 0, 0, 0, 0, 0, 0, 0, 0, 1, 1, 1, 1, 0, 0, 0, 0, 0, 1, 1, 1, 1, 2, 2, 2, 2, 2, 2, 2, 2, 2,
 ];
 
-/// How many levels a type is above the neutrals next to it, plus 1, if these are between types of the same
-/// direction.
+/// The level of a type minus that of neutrals between two types of its direction, plus 1. For a neutral type,
+/// 1.
 pub static ABOVE: [u8; 2 * ROW_LEN] = [
     1, 1, 0, 2, 0, 0, 2, 0, 0, 0, 1, 1, 1, 1, 0, 0, 0, 0, 0, 1, 1, 1, 1, 1, 1, 1, 1, 1, 1, 1, 1, 1,
     1, 1, 1, 2, 1, 1, 2, 1, 1, 1, 1, 1, 1, 1, 1, 1, 1, 1, 1, 1, 1, 1, 1, 1, 1, 1, 1, 1, 1, 1, 1, 1,

@@ -153,7 +153,7 @@ fn with_steps(
 }
 
 /// Returns how the algorithm arrives at the levels of one paragraph. The text need not be a single paragraph:
-/// any list of characters is allowed. The time is proportional to the length of the text.
+/// any list of characters is allowed. Needs time proportional to the length of the text.
 pub fn reasons(
     alloc: Global,
     tables: &Tables,

@@ -38,7 +38,8 @@ fn is_plain(class: BidiClass) -> bool
     (class as u8 <= BidiClass::ON as u8) & (class as u8 != BidiClass::BN as u8)
 }
 
-// Returns whether a character of this class does not raise any level above 0.
+// Returns whether a class is flat: if all classes of a paragraph are flat and its base level is 0, all levels
+// are 0.
 fn is_flat(class: BidiClass) -> bool
     ensures { result ≡ is_flat class }
 {
@@ -48,7 +49,8 @@ fn is_flat(class: BidiClass) -> bool
             & ((number != BidiClass::AL as u8) & (number != BidiClass::AN as u8)))
 }
 
-// Returns whether a character of this class does not raise any level above 1.
+// Returns whether a class is flat in a right-to-left paragraph: if all classes are and the base level is 1,
+// all levels are 1.
 fn is_flat_rtl(class: BidiClass) -> bool
     ensures { result ≡ is_flat_rtl class }
 {
@@ -58,7 +60,7 @@ fn is_flat_rtl(class: BidiClass) -> bool
             & ((number != BidiClass::EN as u8) & (number != BidiClass::AN as u8)))
 }
 
-// Returns whether a character of this class does not raise any level above the base level, 0 or 1.
+// Returns whether a class is flat in a paragraph with this base level, 0 or 1.
 #[inline(always)] // so that a loop tests the base level once
 fn is_flat_at(class: BidiClass, base: u8) -> bool
     ensures { result ≡ is_flat_at base class }
@@ -83,7 +85,7 @@ fn are_plain(classes: &[BidiClass]) -> bool
 // The number of characters whose classes are tested together.
 const AT_ONCE: usize = 128;
 
-// Returns whether no character raises a level above the base level.
+// Returns whether all classes are flat, so that all levels equal the base level.
 fn are_flat(classes: &[BidiClass], base: u8) -> bool
     requires { base ≤ 1 }
     ensures { result ≡ list_all (is_flat_at base) classes.now }
@@ -114,7 +116,7 @@ fn are_classes_flat(classes: &[BidiClass], base: u8) -> bool
 // are tested one by one.
 const SMALL_GROUP: usize = 8;
 
-// Returns whether no character raises a level above the base level, given the properties of the characters.
+// Returns whether the classes in the properties are all flat, so that all levels equal the base level.
 fn are_flat_by(properties: &[Properties], base: u8) -> bool
     requires { base ≤ 1 }
     ensures { result ≡ list_all (λ one. is_flat_at base (class_in one)) properties.now }
@@ -348,8 +350,8 @@ fn put_brackets(
     }
 }
 
-// A cache of the bracket types of two characters. `first` is the one last looked up in the tables. Most texts
-// use only one kind of bracket.
+// A cache of the bracket types of two characters. `first` is the character that was last looked up in the
+// tables. Most texts use only one kind of bracket.
 #[derive(Clone, Copy)]
 struct Known {
     first: char,

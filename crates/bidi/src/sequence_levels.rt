@@ -28,7 +28,7 @@ pub(crate) struct Brackets<'a> {
     pub has_any: bool,
 }
 
-/// What is known about the characters that X9 keeps before their sequences are resolved.
+/// The input for resolving the sequences of a paragraph. It describes the characters that X9 keeps.
 #[derive(Clone, Copy)]
 pub(crate) struct Paragraph<'a> {
     pub brackets: Brackets<'a>,
@@ -76,7 +76,7 @@ fn sides_between(paragraph: &Paragraph<'_>, first: usize, last: usize) -> Sides
     }
 }
 
-/// Finds the levels of a sequence, given its types, using the rules W1 to I2.
+/// Applies W1 to I2 to the types of a sequence, and writes its levels to `levels`.
 pub(crate) fn resolve_types(
     brackets: &Brackets<'_>,
     explicit: &[BidiClass],
@@ -205,7 +205,8 @@ impl Sequence {
         }
     }
 
-    // Collects the sequence that begins at `start`.
+    // Fills the lists with the indices, bracket types and explicit types of the sequence that begins at
+    // `start`.
     fn take(&mut self, paragraph: &Paragraph<'_>, start: usize) -> Result<(), AllocError>
         requires paragraph { IsReady paragraph.now }
         requires within { start < length paragraph.now.stayed.now.levels.items }
@@ -276,7 +277,7 @@ impl Sequence {
         }
     }
 
-    // Collects the sequence that begins at `start` in separate lists, resolves it, and writes its levels.
+    // Resolves the sequence that begins at `start`, after collecting its characters, and writes its levels.
     fn resolve_gathered(
         &mut self,
         paragraph: &Paragraph<'_>,
@@ -310,7 +311,8 @@ impl Sequence {
     }
 }
 
-// Sets the flag at `next`, the start of a run that continues an earlier run, if there is one.
+// Sets the flag at `next`, where a run that continues an earlier run starts. Does nothing if `next` is
+// `None`.
 pub(crate) fn mark(continued: &mut [bool], next: Option<usize>)
     requires { IfSome next (λ place. place < length continued.old) }
     ensures { continued.new ≡ marked continued.old next }

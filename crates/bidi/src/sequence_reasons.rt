@@ -24,7 +24,7 @@ pub struct SequenceReasons {
     pub steps: Vec<SequenceStep>,
 }
 
-// Returns the sequence that begins at `start`.
+// Returns the sequence that begins at `start`, and what the rules do with its characters.
 fn sequence_at(
     alloc: Global,
     paragraph: &Paragraph<'_>,
@@ -63,7 +63,7 @@ fn sequence_at(
     })
 }
 
-// Returns the sequences that begin at `starts`.
+// Returns the sequences that begin at the indices in `starts`, and what the rules do with their characters.
 fn sequences_at(
     alloc: Global,
     paragraph: &Paragraph<'_>,
@@ -85,7 +85,8 @@ fn sequences_at(
     Ok(list)
 }
 
-/// Returns the sequences of a paragraph, in the order of their first characters.
+/// Returns the sequences of a paragraph, in the order of their first characters, and what the rules do with
+/// them.
 pub(crate) fn all_sequences(
     alloc: Global,
     paragraph: &Paragraph<'_>,

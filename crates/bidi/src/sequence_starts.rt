@@ -11,8 +11,8 @@ use crate::sequences::{next_run, run_end};
 use std::alloc::{AllocError, Global};
 use ucd::BidiClass;
 
-// Appends the index at which each sequence begins. `continued` must have a flag for each character, all of
-// them `false`.
+// Appends to `starts` the index at which each sequence begins. `continued` must have a flag for each
+// character, all of them `false`.
 fn push_starts(
     classes: &[BidiClass],
     levels: &[u8],

@@ -110,7 +110,8 @@ fn rise_odd(class: BidiClass) -> u8
     }
 }
 
-// Returns the level after I1 and I2.
+// Returns the level of a character whose type after N2 is `class`, in a sequence at the given level (I1 and
+// I2).
 fn implicit_level(level: u8, class: BidiClass) -> u8
     requires { level ≤ 125 }
     ensures { result ≡ implicit_level level class }
@@ -122,7 +123,7 @@ fn implicit_level(level: u8, class: BidiClass) -> u8
     }
 }
 
-// Returns the step of the character at an index.
+// Returns what the rules do with the character at an index.
 fn sequence_step(
     weak: &WeakSteps,
     paired: &[BidiClass],
@@ -151,7 +152,7 @@ fn sequence_step(
     }
 }
 
-// Returns the types after N0.
+// Applies N0 to the types after W7 (`types`), and returns the new types.
 fn pair(
     alloc: Global,
     kinds: &[BracketType],
@@ -178,7 +179,8 @@ fn pair(
     Ok(paired)
 }
 
-// Returns the steps, given the types after each of the rules W1 to N0, and what N0, N1 and N2 do.
+// Returns the step of each character, given the types after each of the rules W1 to N0, and what N0, N1 and
+// N2 do.
 fn gather_steps(
     alloc: Global,
     weak: &WeakSteps,

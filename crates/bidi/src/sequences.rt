@@ -38,8 +38,8 @@ pub(crate) fn run_end(levels: &[u8], start: usize) -> usize
     end
 }
 
-/// Returns the start of the run that continues the run ending at `end`, if there is one. The continuing run
-/// starts at the match of the character before `end`, if a level run begins there.
+/// Returns the start of the run that continues the run ending at `end`, or `None` if none does. The
+/// continuing run starts at the match of the character before `end`, if a level run begins there.
 pub(crate) fn next_run(levels: &[u8], matches: &[usize], end: usize) -> Option<usize>
     requires within { (0 < end) × (end ≤ length levels.now) }
     requires matches { length matches.now ≡ length levels.now }
@@ -54,7 +54,7 @@ pub(crate) fn next_run(levels: &[u8], matches: &[usize], end: usize) -> Option<u
     }
 }
 
-// Appends the indices of a run.
+// Appends the indices of a run, `start..end`, to `places`.
 fn push_places(places: &mut Vec<usize>, start: usize, end: usize) -> Result<(), AllocError>
     requires { start ≤ end }
     ensures { OnOk result (places.new.items ≡ places.old.items ++ range_with_len start (end - start)) }

@@ -91,7 +91,7 @@ fn next_lead(bytes: &[u8]) -> usize
     ensures before { (k : ℕ) → k < result → leads_at bytes.now k ≡ false }
     ensures here { result < length bytes.now → leads_at bytes.now result ≡ true }
 {
-    // In a run of separators, this tests only one position per separator.
+    // Shortcut for a run of separators: tests one position, not a whole block, for each separator.
     if bytes.is_empty() || is_lead(bytes, 0) {
         return 0;
     }

@@ -54,7 +54,7 @@ pub(crate) fn resolve_weak(types: &mut [BidiClass], sos: BidiClass)
     }
 }
 
-// Applies the rules to the types in `begin..end`.
+// Applies the rules to the types in `begin..end`, given the state before them. Returns the state after them.
 #[inline(always)]
 fn read_each(types: &mut [BidiClass], begin: usize, end: usize, state: State) -> State
     requires state { IsState state.row state.start begin }
@@ -82,7 +82,7 @@ fn read_each(types: &mut [BidiClass], begin: usize, end: usize, state: State) ->
     State { before, row, start }
 }
 
-// Applies the rules to types that no rule but W3 can change, without the tables.
+// Does the same as `read_each` for types that no rule but W3 can change, without the tables.
 #[inline(always)] // so that the loop over a group knows its length
 fn read_simple(types: &mut [BidiClass], begin: usize, end: usize, state: State) -> State
     requires state { IsState state.row state.start begin }
@@ -180,8 +180,8 @@ fn act(types: &mut [BidiClass], start: usize, at: usize, done: u16, value: BidiC
     at
 }
 
-// Applies W1: NSM gets the type of the character before it. `before` is the last type that was not NSM, and
-// is updated.
+// Applies W1: NSM gets the type of the character before it. `before` is the last type that was not NSM; sets
+// it to `class` unless `class` is NSM.
 pub(crate) fn mark_type(before: &mut BidiClass, class: BidiClass) -> BidiClass
     ensures marked { result ≡ mark_type before.old class }
     ensures before { before.new ≡ (if not (is_mark class) then class else before.old) }

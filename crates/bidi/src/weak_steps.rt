@@ -100,7 +100,7 @@ fn left_type(strong: BidiClass, class: BidiClass) -> BidiClass
     }
 }
 
-/// Returns the types after W1.
+/// Applies W1 to the explicit types.
 pub fn w1(alloc: Global, sos: BidiClass, types: &[BidiClass]) -> Result<Vec<BidiClass>, AllocError>
     ensures { IfOk result (λ list. list.items ≡ w1 sos types.now) }
 {
@@ -112,7 +112,7 @@ pub fn w1(alloc: Global, sos: BidiClass, types: &[BidiClass]) -> Result<Vec<Bidi
     Ok(list)
 }
 
-/// Returns the types after W2.
+/// Applies W2 to the types after W1.
 pub fn w2(alloc: Global, sos: BidiClass, types: &[BidiClass]) -> Result<Vec<BidiClass>, AllocError>
     ensures { IfOk result (λ list. list.items ≡ w2 sos types.now) }
 {
@@ -128,7 +128,7 @@ pub fn w2(alloc: Global, sos: BidiClass, types: &[BidiClass]) -> Result<Vec<Bidi
     Ok(list)
 }
 
-/// Returns the types after W3.
+/// Applies W3 to the types after W2.
 pub fn w3(alloc: Global, types: &[BidiClass]) -> Result<Vec<BidiClass>, AllocError>
     ensures { IfOk result (λ list. list.items ≡ w3 types.now) }
 {
@@ -139,7 +139,7 @@ pub fn w3(alloc: Global, types: &[BidiClass]) -> Result<Vec<BidiClass>, AllocErr
     Ok(list)
 }
 
-/// Returns the types after W4.
+/// Applies W4 to the types after W3.
 pub fn w4(alloc: Global, types: &[BidiClass]) -> Result<Vec<BidiClass>, AllocError>
     ensures { IfOk result (λ list. list.items ≡ w4 types.now) }
 {
@@ -153,7 +153,7 @@ pub fn w4(alloc: Global, types: &[BidiClass]) -> Result<Vec<BidiClass>, AllocErr
     Ok(list)
 }
 
-/// Returns the types after W5.
+/// Applies W5 to the types after W4.
 pub fn w5(alloc: Global, types: &[BidiClass]) -> Result<Vec<BidiClass>, AllocError>
     ensures { IfOk result (λ list. list.items ≡ w5 types.now) }
 {
@@ -171,7 +171,7 @@ pub fn w5(alloc: Global, types: &[BidiClass]) -> Result<Vec<BidiClass>, AllocErr
     Ok(list)
 }
 
-/// Returns the types after W6.
+/// Applies W6 to the types after W5.
 pub fn w6(alloc: Global, types: &[BidiClass]) -> Result<Vec<BidiClass>, AllocError>
     ensures { IfOk result (λ list. list.items ≡ w6 types.now) }
 {
@@ -182,7 +182,7 @@ pub fn w6(alloc: Global, types: &[BidiClass]) -> Result<Vec<BidiClass>, AllocErr
     Ok(list)
 }
 
-/// Returns the types after W7.
+/// Applies W7 to the types after W6.
 pub fn w7(alloc: Global, sos: BidiClass, types: &[BidiClass]) -> Result<Vec<BidiClass>, AllocError>
     ensures { IfOk result (λ list. list.items ≡ w7 sos types.now) }
 {

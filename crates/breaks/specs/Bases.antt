@@ -55,7 +55,7 @@ character t c = record {
   is_future_pictograph = is_future_pictograph_in t c;
 }
 
--- a base: a character, and the combining marks and ZWJ that join it
+-- a base: a character, and the combining marks and ZWJs that join it
 pub record Base : Type 0 where
   pub first : Character
   pub attached : List Character

@@ -1,4 +1,4 @@
--- Tests of line breaking classes and their details.
+-- Comparisons of line breaking classes, and of the details that some classes have.
 use Rattle.std.specs.Prelude.{Bool, List}
 use Rattle.std.specs.List.{list_any}
 use Rattle.ucd.specs.declared.line_class.LineClass.{LineClass}

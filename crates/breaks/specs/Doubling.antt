@@ -19,7 +19,7 @@ doubled_classes = SP ∷ NU ∷ AL ∷ HL ∷ ID ∷ []
 abbrev pub can_be_doubled : Character → Bool
 can_be_doubled c = is_one_of doubled_classes c.class && not (is_detail c.detail DottedCircle)
 
--- the mark between two characters of one of these classes (LB7, LB25, LB28 or, for ID, LB31)
+-- the mark between two doubled characters of this class (LB7, LB25, LB28 or, for ID, LB31)
 abbrev pub mark_between : LineClass → Mark
 mark_between ID = May
 mark_between class = Never

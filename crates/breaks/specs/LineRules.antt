@@ -1,4 +1,4 @@
--- The names of the rules of UAX #14.
+-- The names of the rules that decide break marks (UAX #14).
 use Rattle.std.specs.Prelude.{ℕ, List, codes}
 use Rattle.breaks.specs.declared.line_rule.LineRule.{LineRule}
 use Rattle.breaks.specs.declared.line_rule.LineRule.TheVariants.{LB3, LB4, LB5, LB6, LB7, LB8, LB8a, LB9, LB11, LB12, LB12a, LB13, LB14, LB15, LB15a, LB15b, LB15c, LB15d, LB16, LB17, LB18, LB19, LB19a, LB20, LB20a, LB21, LB21a, LB21b, LB22, LB23, LB23a, LB24, LB25, LB26, LB27, LB28, LB28a, LB29, LB30, LB30a, LB30b, LB31}

@@ -34,9 +34,9 @@ abbrev pub is_nothing : List LineClass → Bool
 is_nothing [] = true
 is_nothing (class ∷ rest) = false
 
--- Whether a list of classes matches a suffix of the expression. Each definition adds a part to the suffix of
--- the one before it. No optional or repeated part shares a class with a part that can follow it, so each part
--- can match greedily.
+-- Each of these definitions tests whether a list of classes matches a suffix of the expression. From one
+-- definition to the next, the suffix grows by at least one part. No optional or repeated part shares a class
+-- with a part that can follow it, so each part can match greedily.
 abbrev pub is_end : List LineClass → Bool
 is_end classes = is_nothing (after_one affix classes)
 

@@ -11,7 +11,7 @@ use Rattle.breaks.specs.Symbols.{character_by}
 use Rattle.breaks.specs.declared.mark.Mark.{Mark}
 use Rattle.breaks.specs.declared.mark.Mark.TheVariants.{Never}
 
--- the last base, with the next character attached
+-- the last base after the next character has been attached to it
 abbrev pub with_attached : Base → Character → Base
 with_attached last c = record { first = last.first; attached = last.attached ++ c ∷ [] }
 
@@ -20,9 +20,9 @@ abbrev pub bases_after : List Character → List Base
 bases_after [] = []
 bases_after (c ∷ text) = if is_one_of (CM ∷ ZWJ ∷ []) c.class then bases_after text else bases_of (c ∷ text)
 
--- The outcome before the character c has the mark that the rules determine, and the new state belongs to the bases that
--- include c. `mark` is the mark of the outcome, given the bases after the next one. `stands` says which bases the new
--- state belongs to.
+-- The outcome before the character c has the mark that the rules determine. The new state belongs to the
+-- bases up to and including that of c. `mark` returns the outcome's mark, given the bases after that of c.
+-- `stands` tells whether the new state belongs to given bases.
 abbrev pub Passes : List Rule → (List Base → Mark) → (Base → List Base → Type 0) → Base → List Base → Character → Type 0
 Passes some mark stands last others c =
     MatchBool (stays_with (end_of last) c)

@@ -86,12 +86,12 @@ abbrev pub chars_in : List Base → ℕ
 chars_in [] = 0
 chars_in (b ∷ bases) = chars_in bases + (length b.attached + 1)
 
--- the index of the first character of the nearest base, if there is one
+-- the index of the first character of the nearest base, or `None` if there are no bases
 abbrev pub start_of : List Base → Option ℕ
 start_of [] = None
 start_of (b ∷ bases) = Some (chars_in bases)
 
--- the class of the nearest base, if there is one
+-- the class of the nearest base, or `None` if there are no bases
 abbrev pub next_class : List Base → Option LineClass
 next_class bases = option_map class_of (slice_get bases 0)
 
@@ -106,8 +106,8 @@ reason_at names rules b before after = record {
   mark = mark_by rules (b ∷ before) after;
 }
 
--- the reasons for the marks inside a base that starts at `start`: after its character c, and after the
--- following characters of the base, except the last
+-- the reasons for the marks inside a base that starts at `start`, from the mark after its character c to the
+-- mark before its last character
 abbrev pub reasons_inside : ℕ → LineClass → Option ℕ → Character → List Character → List Reason
 reasons_inside start class behind c [] = []
 reasons_inside start class behind c (d ∷ attached) =

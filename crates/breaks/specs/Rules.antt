@@ -87,7 +87,7 @@ is_spaced classes bases = is classes (without_spaces bases)
 abbrev pub spaced : (List Base → Bool) → List Base → Bool
 spaced condition bases = condition (without_spaces bases)
 
--- whether there is a nearest base that meets `first`, and the bases beyond it meet `others`
+-- whether there are bases, they meet `first`, and the bases beyond the nearest one meet `others`
 abbrev pub followed : (List Base → Bool) → (List Base → Bool) → List Base → Bool
 followed first others [] = false
 followed first others (b ∷ bases) = first (b ∷ bases) && others bases
@@ -122,7 +122,7 @@ abbrev pub is_aksara : List LineClass → List Base → Bool
 is_aksara classes [] = false
 is_aksara classes (b ∷ bases) = is_one_of classes (class_of b) || is_dotted_circle b
 
--- whether the bases nearest to a position are `NU ( SY | IS )*`
+-- whether the bases before a position end in a number, `NU ( SY | IS )*`
 abbrev pub ends_in_number : List Base → Bool
 ends_in_number [] = false
 ends_in_number (b ∷ bases) = is_same (class_of b) NU || (is_one_of (IS ∷ SY ∷ []) (class_of b) && ends_in_number bases)
@@ -141,7 +141,7 @@ abbrev pub is_future_pictograph : List Base → Bool
 is_future_pictograph [] = false
 is_future_pictograph (b ∷ bases) = b.first.is_future_pictograph
 
--- The classes in each list are in the order of `LineClass`, as in the bit sets of the code.
+-- In each list, the classes are in the order of `LineClass`.
 abbrev pub letters : List LineClass
 letters = AL ∷ HL ∷ []
 
@@ -281,7 +281,7 @@ rows_before_numbers v =
     LB3_to_LB12 ++ (LB12a v ++ (LB13 v ++ (LB14 ++ (LB15 v ++ (LB16_to_LB18
     ++ (LB19 v ++ (LB20 ++ (LB20a v ++ (LB21 v ++ (LB21a v ++ LB21b_to_LB24))))))))))
 
--- ---- LB25. For 15.0, these are rules on pairs of bases.
+-- ---- LB25. The rows for 15.0 apply to pairs of bases.
 
 unfoldable pub rows_of_numbers : Version → List Row
 rows_of_numbers V15_0 =
@@ -338,7 +338,8 @@ LB29_to_LB30b =
 unfoldable pub rows_after_numbers : Version → List Row
 rows_after_numbers v = LB26_to_LB28 ++ (LB28a v ++ LB29_to_LB30b)
 
--- LB25: one rule for whole numbers, or the rows. In 17.0, the rows themselves cover whole numbers.
+-- LB25: one rule if it is applied to whole numbers in 15.0, and otherwise the rows. The rows of 17.0 always
+-- cover whole numbers.
 abbrev pub numbers : Version → Bool → List Rule
 numbers V15_0 true = record { holds = is_in_number; mark = Never } ∷ []
 numbers V15_0 false = map rule_of (rows_of_numbers V15_0)

@@ -10,7 +10,7 @@ character_in c = record { class = c.class; detail = c.detail; is_wide = c.is_wid
 abbrev pub base_in : Found → Base
 base_in b = record { first = character_in b.first; attached = map character_in b.attached.now }
 
--- how many of the characters after a character belong to the same base
+-- how many characters at the start of a text belong to the base of c, the character before the text
 abbrev pub attached_len : Character → List Character → ℕ
 attached_len c [] = 0
 attached_len c (d ∷ text) = if stays_with c d then suc (attached_len d text) else 0

@@ -22,8 +22,8 @@ character_in v a = record {
 abbrev pub character_by : Version → Properties → Character
 character_by v p = character_in v (line_answers p)
 
--- The part of a character that the rules of 15.0 read. LB30 needs the width only for parentheses. LB30b needs
--- the pictograph property only of the base before a position, for which the walk records it.
+-- The part of a character that the rules of 15.0 read. LB30 needs the width only for parentheses. LB30b reads
+-- the pictograph property only of the base before a position, and the walk records that property.
 abbrev pub told : Character → Character
 told c = record {
   class = c.class;
@@ -38,7 +38,7 @@ narrow class = record { class = class; detail = Plain; is_wide = false; is_futur
 abbrev pub wide : LineClass → Character
 wide class = record { class = class; detail = Plain; is_wide = true; is_future_pictograph = false }
 
--- the characters that the symbols of both versions represent, in the order of the symbols
+-- the characters represented by the first symbols, which both versions have, in the order of the symbols
 abbrev pub first_symbols : List Character
 first_symbols =
     narrow class.BK ∷
@@ -88,8 +88,8 @@ symbols = first_symbols ++ (narrow class.CM ∷ narrow class.ZWJ ∷ [])
 abbrev pub shown : ℕ → Character
 shown number = get_or symbols number (narrow class.XX)
 
--- The part of a character that the rules of 17.0 read, except for the width of its base (LB19a), which the walk
--- records. Only QU and AL have a detail.
+-- The part of a character that the rules of 17.0 read, except for two properties. The walk records these: the
+-- width of its base (LB19a), and whether it is a future pictograph (LB30b). Only QU and AL have a detail.
 abbrev pub told_17 : Character → Character
 told_17 c = record {
   class = c.class;

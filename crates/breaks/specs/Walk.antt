@@ -21,7 +21,7 @@ use Rattle.breaks.specs.declared.symbol.TheConstants.{SYMBOL_COUNT}
 abbrev pub base : LineClass → Base
 base class = alone (narrow class)
 
--- the example bases of the states that both versions have; in 15.0, these states come last
+-- the example bases of the states from NU to NumberCP, which both versions have; 15.0 has no later states
 abbrev pub last_states : List (List Base)
 last_states =
     (base class.NU ∷ []) ∷
@@ -76,8 +76,8 @@ states =
 abbrev pub bases_at : ℕ → List Base
 bases_at number = get_or states number []
 
--- the outcome after LB8a and LB30b, given whether the last character is a ZWJ and whether the last base is a
--- future pictograph
+-- the outcome once LB8a and LB30b have been applied, given whether the last character is a ZWJ, and whether
+-- the last base is a future pictograph
 abbrev pub decided_at : ℕ → Bool → Bool → ℕ
 decided_at outcome is_joined is_pictograph = if is_joined || ((outcome == UNLESS) && is_pictograph) then NEVER else outcome
 
@@ -147,8 +147,8 @@ plain (b ∷ bases) = record { first = record b.first { is_future_pictograph = f
 abbrev pub answers : Bool → List Base → List Bool
 answers whole_numbers bases = map (λ row. row.before (plain bases)) (rows whole_numbers)
 
--- the results of conditions that rules may need after one more base: for hyphens after HL, and for runs of
--- spaces, RI and numbers
+-- The results of further conditions, on which the rules may depend once one more base has been read. They are
+-- about hyphens after HL, and about runs of spaces, RI and numbers.
 abbrev pub carried : List Base → List Bool
 carried bases =
     is (class.HL ∷ []) bases

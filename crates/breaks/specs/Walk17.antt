@@ -1,6 +1,6 @@
 -- The state of the walk over the characters with the rules of Unicode 17.0, similar to that in Walk.antt for
--- 15.0. In addition, the walk records whether the last two bases are wide (LB19a). The outcome of a step is a
--- mark or a question about the bases after the next one.
+-- 15.0. In addition, the walk records for each of the last two bases whether it is wide (LB19a). The outcome
+-- of a step is a mark or a question about the bases after the next one.
 use Rattle.std.specs.Prelude.{◌≡◌, ℕ, Option, None, Some, ◌*◌, ◌<◌, ◌==◌, Bool, false, not, ◌||◌, ◌&&◌, ◌++◌, List, [], ◌∷◌, map, get_or, set, if◌then◌else◌}
 use Rattle.ucd.specs.declared.line_class.LineClass.TheVariants as class
 use Rattle.ucd.specs.declared.line_detail.LineDetail.TheVariants.{Final, Initial}
@@ -135,9 +135,9 @@ LB19a_last_row = 26
 abbrev pub LB30b_row : ℕ
 LB30b_row = 61
 
--- The result of each rule's condition on these bases. The conditions of LB8a, of the first rule of LB19a, and of
--- LB30b for pictographs depend on the bits of a walk, and count as false. The last rule of LB19a counts as if the
--- base before the last one were narrow.
+-- The result of each rule's condition on these bases. The conditions of LB8a, of the first rule of LB19a, and
+-- of LB30b for pictographs depend on the bits of a walk, and count as false. In the last rule of LB19a, the
+-- base before the last one counts as narrow.
 abbrev pub answers_17 : List Base → List Bool
 answers_17 bases =
     set (set (set (set (map (λ row. row.before bases) rows_17) LB8a_row false) LB19a_first_row false) LB19a_last_row (is (class.QU ∷ []) bases))
@@ -150,7 +150,7 @@ answered_17 bits answers =
     LB19a_last_row (get_or answers LB19a_last_row false && not bits.was_wide))
     LB30b_row bits.is_pictograph
 
--- the results of conditions that rules may need after one more base
+-- the results of further conditions, on which the rules may depend once one more base has been read
 abbrev pub carried_17 : List Base → List Bool
 carried_17 bases =
     is (class.HL ∷ []) bases

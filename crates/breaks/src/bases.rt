@@ -21,7 +21,7 @@ pub struct Character {
     pub is_future_pictograph: bool,
 }
 
-/// A character, and the combining marks and ZWJ that join it.
+/// A base: a character, and the combining marks and ZWJs that join it.
 #[derive(Clone, Copy)]
 pub struct Base<'a> {
     pub first: Character,
@@ -35,7 +35,7 @@ pub fn is_one_of(classes: &[LineClass], class: LineClass) -> bool
     classes.contains(&class)
 }
 
-// LB1: returns the class of a character, given its class in the tables.
+// Returns the class that LB1 assigns to a character, given the character's class in the tables.
 fn resolved(class: LineClass, is_mark: bool) -> LineClass
     ensures { result ≡ resolved class is_mark }
 {
@@ -132,7 +132,8 @@ fn stays_with(before: Character, c: Character) -> bool
         )
 }
 
-// Returns how many of the characters after a character belong to the same base.
+// Returns how many characters at the start of `rest` belong to the base of `first`, the character before
+// `rest`.
 fn attached_len(first: Character, rest: &[Character]) -> usize
     ensures len { result ≡ attached_len (character_in first) (map character_in rest.now) }
     ensures within { result ≤ length rest.now }
@@ -165,7 +166,7 @@ pub fn bases(alloc: Global, characters: &[Character]) -> Result<Vec<Base<'_>>, A
 }
 
 impl Base<'_> {
-    /// LB10: returns the class of the base.
+    /// Returns the class of the base: that of its first character, or AL for a CM or ZWJ (LB10).
     pub fn class(&self) -> LineClass
         ensures { result ≡ class_of (base_in self.now) }
     {

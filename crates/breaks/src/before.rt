@@ -52,7 +52,7 @@ impl<'b, 'a> Model for Before<'b, 'a> {
 }
 
 impl<'b, 'a> Before<'b, 'a> {
-    /// Returns the value for the start of a text, which no bases precede. `bases` must be empty.
+    /// Returns the value for the start of a text. `bases` must be empty.
     pub fn none(bases: &'b [Base<'a>]) -> Before<'b, 'a>
         requires { length bases.now ≡ 0 }
         ensures { result ≡ [] }
@@ -146,7 +146,8 @@ impl<'b, 'a> Before<'b, 'a> {
         is(&[LineClass::CL, LineClass::CP], self.bases) && self.rest_ends_in_digits
     }
 
-    /// LB25 of 15.0 for whole numbers: returns whether the position is inside a number.
+    /// LB25 of 15.0 for whole numbers: returns whether the position is inside a number, given the bases after
+    /// the position.
     #[tactic(auto, using(crate::proofs::NumberLemmas::in_number_is))]
     pub fn is_in_number(&self, after: &[Base<'_>]) -> bool
         ensures { result ≡ is_in_number self.now (map base_in after.now) }

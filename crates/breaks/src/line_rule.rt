@@ -64,7 +64,7 @@ static NAMES: [&str; LINE_RULE_COUNT] = names! {
 };
 
 impl LineRule {
-    /// Returns the name, such as `LB8a`.
+    /// Returns the name of the rule, such as `LB8a`.
     pub fn name(self) -> &'static str
         ensures { result.now ≡ name_of self }
     {

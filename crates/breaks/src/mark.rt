@@ -96,8 +96,8 @@ fn mark_all<C: Characters>(
     }
 }
 
-// Does the same as `mark_all` with the rules of one version. Uses the walk `O`, which is faster than `W`, if
-// all properties are known and `O` can pass all characters.
+// Does the same as `mark_all`, with the given rules. Uses the walk `O`, which is faster than `W`, if all
+// properties are known and `O` can pass all characters. Otherwise, uses `W`.
 fn mark_by<R: Rules, O: Walk<R>, W: Walk<R>, C: Characters>(
     characters: C,
     rules: R,
@@ -114,7 +114,8 @@ fn mark_by<R: Rules, O: Walk<R>, W: Walk<R>, C: Characters>(
     }
 }
 
-// Does the same as `mark_all` with the rules of 17.0, for which there is a third, even faster walk.
+// Does the same as `mark_all`, with the rules of 17.0. Prefers `NarrowWalk17`, which is even faster than
+// `OrdinaryWalk17`.
 fn mark_all_17<C: Characters>(characters: C, marks: &mut [Mark])
     requires { length marks.old ≡ length (C.all characters) }
     ensures { marks.new ≡ marks_by V17_0 false (C.all characters) }
@@ -126,8 +127,7 @@ fn mark_all_17<C: Characters>(characters: C, marks: &mut [Mark])
     }
 }
 
-// Returns whether a walk can pass all characters. The loop has no branches, so the compiler can test many
-// characters at a time.
+// Returns whether a walk can pass all characters. The loop has no branches, so the compiler can vectorize it.
 fn are_accepted<R: Rules, W: Walk<R>, C: Characters>(characters: C) -> bool
     ensures { result ≡ list_all W.accepts (C.all characters) }
 {
@@ -138,7 +138,7 @@ fn are_accepted<R: Rules, W: Walk<R>, C: Characters>(characters: C) -> bool
     accepted
 }
 
-// Does the same as `mark_by` with a walk that can pass all characters.
+// Does the same as `mark_by`, but always with the walk `W`, which must be able to pass all characters.
 #[inline(never)] // so that the loop has all registers
 fn mark_each<R: Rules, W: Walk<R>, C: Characters>(characters: C, rules: R, marks: &mut [Mark])
     requires len { length marks.old ≡ length (C.all characters) }
@@ -157,7 +157,7 @@ fn mark_each<R: Rules, W: Walk<R>, C: Characters>(characters: C, rules: R, marks
     marks[last] = Mark::Must;
 }
 
-// Returns the mark before a character, given the outcome there and the index after the character.
+// Returns the mark before the character at `after - 1`, given the outcome there.
 #[inline(always)] // so that most characters need no call
 fn mark_before<R: Rules, C: Characters>(characters: C, after: usize, outcome: u8, rules: R) -> Mark
     requires place { after ≤ length (C.all characters) }
@@ -171,8 +171,8 @@ fn mark_before<R: Rules, C: Characters>(characters: C, after: usize, outcome: u8
     }
 }
 
-// Returns the mark that answers a question. Reads on until the answer is known, past the combining marks of
-// one or two bases.
+// Returns the mark that answers a question. Reads the characters from the index `after` on until the answer
+// is known, past the combining marks of at most two bases.
 #[cold]
 #[inline(never)] // so that the loop over the characters has all registers
 fn mark_asked<R: Rules, C: Characters>(characters: C, after: usize, question: u8, rules: R) -> Mark

@@ -14,7 +14,7 @@ use crate::table_17::{
 use crate::walk_17::{Rules17, is_wide};
 use ucd::Properties;
 
-/// The state of the walk over ordinary characters. `Walk17` is that of the walk over any characters.
+/// The state of the walk over ordinary characters. `Walk17` is the state of the walk over any characters.
 #[derive(Clone, Copy)]
 pub struct OrdinaryWalk17 {
     // The start of the state's row in the table.
@@ -60,8 +60,8 @@ impl Walk<Rules17> for OrdinaryWalk17 {
 }
 
 impl OrdinaryWalk17 {
-    // Returns the mark before a base that begins with this character, or the question that decides it, and
-    // moves past the character.
+    // Records `next` as the first character of the last base. Returns the mark before this base, or the
+    // question that decides the mark.
     #[inline(always)] // so that the loop keeps the state in registers
     fn begin(&mut self, outcome: u8, next: Properties) -> u8
         requires { outcome < OUTCOME_COUNT }

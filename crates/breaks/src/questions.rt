@@ -1,4 +1,4 @@
-//! The answers to questions about the bases after the next one (Unicode 17.0): those of LB15b, LB15c, LB19a,
+//! Answers questions about the bases after the next one (Unicode 17.0): the questions of LB15b, LB15c, LB19a,
 //! LB25 and LB28a.
 ghost use Rattle.std.specs.Prelude.{◌≡◌, ◌<◌, ◌≤◌, [], ◌∷◌, List, slice_index};
 ghost use Rattle.ucd.specs.declared.version.Version.TheVariants.{V17_0};

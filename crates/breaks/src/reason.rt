@@ -22,8 +22,8 @@ pub struct Reason {
     pub rule: LineRule,
     /// Where the base that contains the character starts.
     pub base: usize,
-    /// Where the last base that is not a space starts, this base included, or `None` if there is none. UAX
-    /// #14 writes such a base as a class followed by `SP*`.
+    /// Where the last base that is not a space starts, among the bases up to and including this one, or
+    /// `None` if there is none. UAX #14 writes such a base as a class followed by `SP*`.
     pub behind_spaces: Option<usize>,
     /// The class of the base that contains the character, after LB1 and LB10.
     pub class_before: LineClass,
@@ -34,7 +34,7 @@ pub struct Reason {
     pub mark: Mark,
 }
 
-// The rules of a version, with LB25 for whole numbers or for pairs of bases.
+// A Unicode version, and whether its rules apply LB25 to whole numbers or to pairs of bases.
 #[derive(Clone, Copy)]
 struct Edition {
     version: Version,
@@ -84,8 +84,8 @@ fn push_inside(
     Ok(())
 }
 
-// Appends the reasons for the marks after the characters of a base, given the bases up to this one and the
-// bases after it.
+// Appends the reasons for the marks after the characters of a base. `before` holds the bases up to and
+// including this one, and `mark` is the mark after this base.
 fn push_base(
     list: &mut Vec<Reason>,
     edition: Edition,

@@ -12,8 +12,8 @@ ghost use Rattle.breaks.specs.declared.mark.Mark.{Mark};
 use crate::mark::Mark;
 use ucd::Properties;
 
-/// The rules of a version. The outcome before a character is a mark, or a question about the bases after that
-/// character.
+/// The line breaking rules of a Unicode version. The outcome before a character is a mark, or a question
+/// about the bases after that character.
 pub trait Rules: Copy {
     ghost version: { Version };
 

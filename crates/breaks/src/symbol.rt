@@ -100,9 +100,9 @@ macro_rules! symbols {
     };
 }
 
-// The symbol for each value of `Properties::line_index`: first for the classes in the order of `LineClass`,
-// then for the classes with a detail, and then for the 8 unused numbers. Tables of Unicode 15.0 have none of
-// the last six classes, and no details.
+// The symbol for each value of `Properties::line_index`. The classes come first, in the order of `LineClass`,
+// then the classes with a detail, and then the 8 unused numbers. Tables of Unicode 15.0 have none of the last
+// six classes, and no details.
 static SYMBOLS: [u8; LINE_INDEX_COUNT] = symbols! {
     BK BK BK BK; CM CM CM CM; CR CR CR CR; GL GL GL GL; LF LF LF LF; NL NL NL NL; SP SP SP SP;
     WJ WJ WJ WJ; ZW ZW ZW ZW; ZWJ ZWJ ZWJ ZWJ; B2 B2 B2 B2; BA BA BA BA; BB BB BB BB; CB CB CB CB;

@@ -1,7 +1,7 @@
 //! The break table. For each state and each symbol of the next character, the table has the outcome before
 //! that character and the next state. It implements LB4 to LB31, except for two rules that the walk decides
-//! with one bit each: LB8a, and LB30b for future pictographs. The entries are in entries.rt, in an array of
-//! next states and an array of outcomes, because the walk needs only the next state to read the next entry.
+//! with one bit each: LB8a, and LB30b for future pictographs. The entries are in entries.rt. Next states and
+//! outcomes are in separate arrays, because the walk needs only the next state to read the next entry.
 ghost use Rattle.std.specs.Prelude.{◌≡◌, ◌<◌, ◌≤◌, ◌+◌, slice_index};
 ghost use Rattle.breaks.specs.declared.table.TheConstants.{ENTRY_COUNT};
 
@@ -114,7 +114,7 @@ pub const LAST_ROW: usize = ENTRY_COUNT - SYMBOL_COUNT;
 /// The number of entries in a row, in the type of the entries of `NEXT_ROWS`.
 pub const ROW: u32 = SYMBOL_COUNT as u32;
 
-/// The start of the row that is used at the start of a text: the row of BK, after which a line begins too.
+/// The start of the row for the start of a text. This is the row of BK, because a line also begins after BK.
 pub const START: usize = 0;
 
 /// Returns the start of the next row. The slice does not depend on the row, so each step of the walk waits

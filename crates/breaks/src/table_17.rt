@@ -1,7 +1,7 @@
 //! The break table of Unicode 17.0. For each state and each symbol of the next character, the table has the
 //! outcome before that character and the next state. It implements LB4 to LB31, except for the parts that the
-//! walk decides with one bit each: LB8a, the width in LB19a, and LB30b for future pictographs. The entries
-//! are in entries_17.rt.
+//! walk decides: LB8a, the width of bases in LB19a, and LB30b for future pictographs. The entries are in
+//! entries_17.rt.
 ghost use Rattle.std.specs.Prelude.{◌≡◌, ◌<◌, ◌≤◌, ◌+◌, slice_index};
 ghost use Rattle.breaks.specs.declared.table_17.TheConstants.{ENTRY_COUNT, OUTCOME_COUNT};
 
@@ -141,10 +141,11 @@ pub const UNLESS: u8 = 10;
 /// LB19a before a QU of category Pi: `LB19A` after a wide base, and otherwise `NEVER`.
 pub const INITIAL: u8 = 11;
 
-/// LB19a after a QU of category Pf: `MAY` between wide bases, and otherwise `NEVER`.
+/// LB19a after a QU of category Pf: `MAY` if the bases before and after the QU are wide, and otherwise
+/// `NEVER`.
 pub const FINAL: u8 = 12;
 
-/// `FINAL`, and LB30b: `NEVER` also after a future pictograph.
+/// The same as `FINAL`, except that it is also `NEVER` after a future pictograph (LB30b).
 pub const FINAL_UNLESS: u8 = 13;
 
 /// LB19a between a QU of category Pf and one of category Pi: `LB19A` if both and the base before them are
@@ -166,7 +167,7 @@ pub const LAST_ROW: usize = ENTRY_COUNT - SYMBOL_COUNT;
 /// The number of entries in a row, in the type of the entries of `NEXT_ROWS`.
 pub const ROW: u32 = SYMBOL_COUNT as u32;
 
-/// The start of the row that is used at the start of a text: the row of BK, after which a line begins too.
+/// The start of the row for the start of a text. This is the row of BK, because a line also begins after BK.
 pub const START: usize = 0;
 
 /// Returns the start of the next row.

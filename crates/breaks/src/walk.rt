@@ -98,7 +98,7 @@ impl Walk<Rules15> for Walk15 {
 }
 
 /// The state of the walk over ordinary characters, which are neither a ZWJ nor a future pictograph. Between
-/// these, the table alone decides.
+/// such characters, the table alone determines the outcome.
 #[derive(Clone, Copy)]
 pub struct OrdinaryWalk15 {
     row: usize,
@@ -137,8 +137,8 @@ fn is_now_pictograph(outcome: u8, before: bool, next: bool) -> bool
     if outcome == STAYS { before } else { next }
 }
 
-// Returns the outcome after LB8a and LB30b: `NEVER` if the last character is a ZWJ, or if the outcome is
-// `UNLESS` and the last base is a future pictograph.
+// Applies LB8a and LB30b to an outcome. Returns `NEVER` if the last character is a ZWJ, or if the outcome is
+// `UNLESS` and the last base is a future pictograph. Otherwise, returns the outcome itself.
 fn decide(outcome: u8, is_joined: bool, is_pictograph: bool) -> u8
     requires { outcome < 8 }
     ensures decided { result ≡ decided_at outcome is_joined is_pictograph }
@@ -151,7 +151,7 @@ fn decide(outcome: u8, is_joined: bool, is_pictograph: bool) -> u8
     }
 }
 
-// The mark for each outcome, with LB25 as a rule for two bases.
+// The mark for each outcome if LB25 is applied to pairs of bases.
 static MARKS: [Mark; 8] = [
     Mark::Never,
     Mark::Never,
@@ -163,8 +163,8 @@ static MARKS: [Mark; 8] = [
     Mark::Never,
 ];
 
-// The mark for each outcome, with whole numbers. For the last one, `WAITS`, this is the mark if the base
-// after the next one is not NU.
+// The mark for each outcome if LB25 is applied to whole numbers. The last outcome, `WAITS`, has this mark if
+// the base after the next one is not NU.
 static WHOLE_MARKS: [Mark; 8] = [
     Mark::Never,
     Mark::Never,

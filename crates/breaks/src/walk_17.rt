@@ -139,7 +139,7 @@ impl Walk17 {
 }
 
 /// The state of the walk over narrow characters, which are neither wide nor a ZWJ nor a future pictograph.
-/// Between these, the table alone decides.
+/// Between such characters, the table alone determines the outcome.
 #[derive(Clone, Copy)]
 pub struct NarrowWalk17 {
     row: usize,

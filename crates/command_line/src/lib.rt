@@ -1,6 +1,6 @@
 //! The command's arguments, parsed with `clap`: the settings, and why arguments are refused.
 //!
-//! `settings` finds the settings in two steps, `parse` and `settings_of`, which can also be called
+//! `settings` reads the settings in two steps, `parse` and `settings_of`, which can also be called
 //! separately. A `LineFault` has an exit status, and is displayed as its message. A request for help or for
 //! the version is also a fault. The program calls `settings` like this:
 //!

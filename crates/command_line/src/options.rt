@@ -15,7 +15,7 @@ pub struct Settings<'a> {
     pub unicode: Version,
     /// The width of lines in columns, from 1 to 65,535.
     pub width: u16,
-    /// How texts are laid out.
+    /// The layout options.
     pub options: Options,
     /// Whether only LF, CR and CRLF end paragraphs.
     pub line_separators: bool,

@@ -232,7 +232,7 @@ fn is_set(matches: &ArgMatches<'_>, name: &str) -> bool
     matches.contains_id(name) && matches.value_source(name) != Some(ValueSource::DefaultValue)
 }
 
-// Returns how base levels are found, or `None` if more than one of the options is set.
+// Returns how base levels are found, or `None` if more than one of the options for base directions is set.
 fn base_of(rtl: bool, ltr: bool, weak_rtl: bool, weak_ltr: bool) -> Option<Base>
     ensures { result ≡ base_by rtl ltr weak_rtl weak_ltr }
 {
@@ -290,7 +290,8 @@ pub fn parse<'a>(alloc: Global, words: &'a [&'a str]) -> Result<ArgMatches<'a>, 
     }
 }
 
-/// Reads the arguments after the program's name. Calls [`parse`], and then [`settings_of`].
+/// Returns the settings that the arguments after the program's name specify. Calls [`parse`], and then
+/// [`settings_of`].
 pub fn settings<'a>(alloc: Global, words: &'a [&'a str]) -> Result<Settings<'a>, LineFault>
     ensures ok { IfOk result (AreSettings (map (λ word. word.now) words.entry.now)) }
     ensures err { IfErr result (IsLineFault (map (λ word. word.now) words.entry.now)) }

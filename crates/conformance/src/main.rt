@@ -2,17 +2,18 @@
 //! points of its characters. UCD is the folder of the table files, and VERSION is their Unicode version, 15.0
 //! (the default) or 17.0.
 //!
-//! - `conformance marks-of UCD [VERSION]` prints the break marks of each paragraph.
+//! - `conformance marks-of UCD [VERSION]` prints the break marks of each paragraph, with the rules for
+//!   whole numbers.
 //! - `conformance lines-of UCD DIRECTION [VERSION]` lays out each paragraph as a single line, and prints its
 //!   base level, its levels and its order.
 //! - `conformance levels-of UCD DIRECTION [VERSION]` prints the levels of each paragraph before L1.
 //! - `conformance starts-of UCD WIDTH [VERSION]` lays out each paragraph, fills it again at WIDTH columns,
 //!   and prints where its lines start.
 //!
-//! Without arguments, the program prints its usage. The first two commands are for Unicode's conformance
-//! tests (`tests/conformance/run`). The other commands make calls that the program `fribidi` never makes, so
-//! that `tests/resources/run` can measure these calls. For the same reason, `marks-of` and `levels-of` use a
-//! copy of the tables.
+//! Without one of these commands, the program prints its usage. The first two commands are for Unicode's
+//! conformance tests (`tests/conformance/run`). The other commands make calls that the program `fribidi`
+//! never makes, so that `tests/resources/run` can measure these calls. For the same reason, `marks-of` and
+//! `levels-of` use a copy of the tables.
 #![tactic(auto)]
 
 ghost use Rattle.std.specs.Prelude.{◌<◌, IfOk};
@@ -183,7 +184,7 @@ fn sign(mark: Mark) -> char {
     }
 }
 
-// Lays out paragraphs, and prints each as one line or, if a width is given, prints where its lines start.
+// Lays out paragraphs. Prints the only line of each or, if a width is given, where the lines of each start.
 fn tell_by_engine(
     rt: &HostRuntime,
     source: Source<'_>,
@@ -220,7 +221,7 @@ fn write_laid_out<W: Write>(
     }
 }
 
-// Parses a line of hexadecimal code points into characters.
+// Parses a line of hexadecimal code points into characters. Fails if a word is not such a code point.
 fn characters(alloc: Global, line: &str) -> Result<Vec<char>> {
     let mut text = Vec::new(alloc);
     for word in line.split_whitespace() {

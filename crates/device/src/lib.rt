@@ -29,9 +29,8 @@ pub trait Source {
 
     ghost state: { Self → Device };
 
-    /// Reads bytes into the front of `buffer`, which must not be empty, and returns their number. 0 means
-    /// that the source has ended. If the read fails, no byte is consumed, and the failure is
-    /// counted.
+    /// Reads bytes into the front of `buffer`, which must not be empty, and returns their number. A result of
+    /// 0 means that the source has ended. If the read fails, no byte is consumed, and the failure is counted.
     fn read(&mut self, buffer: &mut [u8]) -> Result<usize, ErrorKind>
         requires { 0 < length buffer.old }
         ensures bound { IfOk result (λ n. n ≤ length buffer.new) }

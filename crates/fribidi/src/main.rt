@@ -118,8 +118,8 @@ fn run_tables(rt: &HostRuntime, tables: Tables, settings: &Settings<'_>) -> Resu
     }
 }
 
-// Returns tables in which only LF, CR and CRLF end paragraphs if `line_separators` is true, and otherwise
-// `tables`.
+// If `line_separators` is true, returns tables in which only LF, CR and CRLF end paragraphs. Otherwise,
+// returns `tables`.
 fn separated(
     rt: &HostRuntime,
     tables: Tables,
@@ -210,7 +210,7 @@ fn execute_lines(
     run_script_in(alloc, &mut reader, output, &mut session, options).map_err(ProgramFault::Run)
 }
 
-// Returns the options of a script.
+// Returns the script options that the settings specify.
 fn script_options(settings: &Settings<'_>) -> ScriptOptions {
     ScriptOptions {
         print: settings.print,

@@ -68,7 +68,7 @@ fn show_file(
     }
 }
 
-// Writes the lines of the text that a reader returns. Returns false after reporting an error in it.
+// Writes the lines of the text in `input`. Returns false after reporting an error in the text.
 fn show<R: Read + Drop>(
     rt: &HostRuntime,
     engine: &mut Engine,
@@ -146,7 +146,8 @@ fn report_read(rt: &HostRuntime, name: &str, error: &Option<io::Error>) {
     }
 }
 
-// Reports why standard output cannot be written to, unless it is a pipe whose reader is gone.
+// Reports why standard output cannot be written to, unless it is a pipe whose reader is gone. Returns how the
+// command ends: with `Closed` for such a pipe, and otherwise with `Reported`.
 fn output_end(rt: &HostRuntime, error: &Option<io::Error>) -> End {
     match error {
         Some(error) if error.kind() == ErrorKind::BrokenPipe => return End::Closed,

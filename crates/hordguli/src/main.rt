@@ -57,7 +57,8 @@ fn print_refusal(rt: &HostRuntime, refused: &OptionFault) -> io::Result<()> {
     }
 }
 
-// Prints why `clap` refuses the arguments. The messages of `clap` begin with `error:`.
+// Prints why `clap` refuses the arguments. Replaces `error:`, with which the messages of `clap` begin, by
+// `hordguli:`.
 fn print_words(rt: &HostRuntime, refused: &OptionFault) -> io::Result<()> {
     let Ok(text) = format!(in rt.alloc(); "{refused}") else {
         return eprintln!(rt; "{}", End::Memory);
@@ -68,8 +69,9 @@ fn print_words(rt: &HostRuntime, refused: &OptionFault) -> io::Result<()> {
     }
 }
 
-// Shows the texts. Returns whether this succeeded for all of them. This function and those that it calls each
-// own only one allocated value, because every value to drop after a failed call makes the proof longer.
+// Shows the texts. Returns whether all of them were shown without errors. This function and those that it
+// calls each own only one allocated value, because every value to drop after a failed call makes the proof
+// longer.
 fn run(rt: &HostRuntime) -> Result<bool, End> {
     let line = arguments(rt).map_err(argument_fault)?;
     run_arguments(rt, &line)

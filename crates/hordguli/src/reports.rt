@@ -9,7 +9,7 @@ pub(crate) fn report_error(rt: &HostRuntime, name: &str, error: &io::Error) {
     }
 }
 
-/// Reports what is wrong with a file.
+/// Prints a message about a file to standard error. Ignores errors in printing it.
 pub(crate) fn report(rt: &HostRuntime, name: &str, reason: &str) {
     let _ = eprintln!(rt; "hordguli: {name}: {reason}");
 }

@@ -115,8 +115,8 @@ pub(crate) fn tables_of(rt: &HostRuntime, settings: &Settings<'_>) -> Result<Tab
     }
 }
 
-/// Returns tables in which only LF, CR and CRLF end paragraphs if `line_separators` is true, and otherwise
-/// `tables`.
+/// If `line_separators` is true, returns tables in which only LF, CR and CRLF end paragraphs. Otherwise,
+/// returns `tables`.
 pub(crate) fn separated(
     rt: &HostRuntime,
     tables: Tables,

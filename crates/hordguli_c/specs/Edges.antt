@@ -65,7 +65,7 @@ GivesWord pos status state old new =
 abbrev pub span_out : Span → SpanOut
 span_out span = record { left = span.left; right = span.right }
 
--- the spans of a range in a line; `from` and `to` count from the start of the line
+-- the spans that a range covers in a line; `from` and `to` are counted from the start of the line
 abbrev pub spans_out : Visual → ℕ → ℕ → List SpanOut
 spans_out line from to = map span_out (spans_of line from to)
 

@@ -3,7 +3,7 @@ use Rattle.std.specs.Prelude.{Option, Some, None}
 use Rattle.std.specs.Global.{Global, Box}
 use Rattle.hordguli_c.specs.declared.raw_box.RawBox.{RawBox}
 
--- some `Global`; the choice does not matter, since each has the same right to free a block
+-- a `Global`; which one does not matter, since all of them may free the same blocks
 abbrev pub the_global : Global
 the_global = record { memory = record { seal = tt } }
 

@@ -25,7 +25,8 @@ mark_number Never = 0
 mark_number May = 1
 mark_number Must = 2
 
--- the status if numbers were not converted to characters: one is not a scalar value, or an allocation failed
+-- the status if numbers were not converted to characters: a number is not a scalar value, or an allocation
+-- failed
 abbrev pub CharactersNot : List ℕ → Status → Type 0
 CharactersNot numbers status =
     ((¬ All IsScalar numbers) × (status ≡ is.NotACharacter))
@@ -76,7 +77,7 @@ abbrev pub pair_of : Option Bracket → ℕ
 pair_of None = 0
 pair_of (Some bracket) = bracket.pair
 
--- 1 for a mark, plus 2 for a wide character
+-- the sum of 1 for a mark and 2 for a wide character; a character can be both
 abbrev pub flags_of : Bool → Bool → ℕ
 flags_of is_mark is_wide = (if is_mark then 1 else 0) + (if is_wide then 2 else 0)
 

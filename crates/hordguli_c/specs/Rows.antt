@@ -45,8 +45,8 @@ row_in_line line = record { levels = line.levels; ltov = line.ltov; vtol = line.
 unfoldable pub row_levels : Tables → ℕ → List ℕ → List ℕ → List ℕ
 row_levels tables base text levels = line_levels base (map (class_of tables) text) levels
 
--- the position maps by L2 and, if requested, by L3, applied to the clusters of the row's own characters or to
--- marks
+-- the position maps: L2, then L3 if the options request it, for the clusters of the row's own characters or
+-- for marks
 abbrev pub row_vtol : Tables → Options → List ℕ → List ℕ → List ℕ
 row_vtol tables options text levels = vtol_by options (map (class_of tables) text) (ends_by options text) levels
 

@@ -16,7 +16,7 @@ use Rattle.hordguli_c.specs.declared.status.Status.{Status}
 unfoldable pub clusters_of : List ℕ → List ℕ
 clusters_of text = ends_in (cluster_ends text) 0 (length text)
 
--- the ends of a text's clusters are stored if they fit, and their number in either case
+-- the number of a text's clusters is stored and, if they fit, the ends of these clusters
 abbrev pub PutsTextClusters : List ℕ → Status → List ℕ × ℕ → List ℕ × ℕ → Type 0
 PutsTextClusters characters status old new =
     OfCharacters characters status (new ≡ old) (PutsItems (clusters_of characters) status old new)
@@ -28,7 +28,7 @@ script_runs_of tables text = runs_of (scripts_of (bracket_of tables) text)
 abbrev pub script_run_out : ScriptRun → ScriptRunOut
 script_run_out run = record { start = run.start; length = run.len; script = iso_code run.script; zero = 0 }
 
--- a text's script runs are stored if they fit, and their number in either case
+-- the number of a text's script runs is stored and, if they fit, the runs
 abbrev pub PutsScriptRuns : List ℕ → Status → Tables → List ScriptRunOut × ℕ → List ScriptRunOut × ℕ → Type 0
 PutsScriptRuns characters status tables old new =
     OfCharacters characters status (new ≡ old) (PutsItems (map script_run_out (script_runs_of tables characters)) status old new)

@@ -32,7 +32,8 @@ pub record IsFresh (tables : Tables) (options : Options) (engine : Engine) : Typ
   pub filled : filled_of engine ≡ 0
   pub written : written_of engine ≡ 0
 
--- the reason for refusing to open a session at a width in columns, or a measured session at a width in the caller's unit
+-- the reason for refusing to open a session at a width in columns, or a measured session at a width in the
+-- caller's unit; `None` if neither the text nor the width is refused
 abbrev pub refusal_at : (ℕ → ℕ → Bool) → List ℕ → OpenWidth → Option EditFault
 refusal_at is_cut text (Columns width) = opening_refusal is_cut text width
 refusal_at is_cut text (Units width) = measured_refusal is_cut text width

@@ -12,7 +12,7 @@ statuses =
     is.Ok ∷ is.OutOfRange ∷ is.WidthOutOfRange ∷ is.TextTooLong ∷ is.ParagraphTooLong ∷ is.NoMemory ∷ is.TableFault ∷ is.NotUtf8
     ∷ is.NotACharacter ∷ is.Closed ∷ is.AlreadyOpen ∷ is.UnknownOption ∷ is.NoRoom ∷ is.NoRoom ∷ is.NoRoom ∷ is.NoRoom ∷ is.NotMeasured ∷ []
 
--- the status with the given number; 13 to 15 come from hordguli.c alone, and no number is above 16
+-- the status with the given number; only hordguli.c returns 13 to 15, and no status has a number above 16
 unfoldable pub status_of : ℕ → Status
 status_of number = slice_index_or statuses number is.NoRoom
 
@@ -21,7 +21,7 @@ pub record Returns (says : Status → Type 0) (number : ℕ) : Type 0 where
   pub status : says (status_of number)
   pub within : number ≤ 16
 
--- the status of each fault of an edit
+-- the status for each `EditFault`
 abbrev pub edit_status : EditFault → Status
 edit_status faults.OutOfRange = is.OutOfRange
 edit_status faults.WidthOutOfRange = is.WidthOutOfRange
@@ -29,7 +29,7 @@ edit_status faults.TextTooLong = is.TextTooLong
 edit_status faults.ParagraphTooLong = is.ParagraphTooLong
 edit_status faults.NoMemory = is.NoMemory
 
--- the status of each fault of a call for measured text
+-- the status for each `AdvanceFault`
 abbrev pub advance_status : AdvanceFault → Status
 advance_status measured.NotMeasured = is.NotMeasured
 advance_status measured.OutOfRange = is.OutOfRange

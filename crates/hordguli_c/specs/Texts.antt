@@ -21,8 +21,8 @@ use Rattle.hordguli_c.specs.declared.status.Status.TheVariants as is
 abbrev pub text_page : Rules → ℕ → Print → List ℕ → List ℕ
 text_page rules width print text = page rules width print (paragraphs (cut_by rules) text)
 
--- If a session would refuse a text, the call returns the same status, and nothing changes. For any other text, `rest`
--- holds.
+-- If a session would refuse a text, the call returns the status for that refusal, and nothing changes. For
+-- any other text, `rest` holds.
 abbrev pub UnlessRefused : Option EditFault → Status → Type 0 → Type 0 → Type 0
 UnlessRefused None status unchanged rest = rest
 UnlessRefused (Some fault) status unchanged rest = (status ≡ edit_status fault) × unchanged

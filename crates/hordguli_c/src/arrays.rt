@@ -63,7 +63,7 @@ pub fn put_levels(list: &[u8], array: &mut [u8])
     array[..list.len()].copy_from_slice(list);
 }
 
-/// Returns the number for a break mark in C.
+/// Returns the number that represents a break mark in C.
 pub fn mark_number(mark: Mark) -> u8
     ensures { result ≡ mark_number mark }
 {
@@ -83,7 +83,7 @@ fn put_each_mark(marks: &[Mark], array: &mut [u8])
     }
 }
 
-/// Copies the numbers of marks to the front of an array.
+/// Writes the number that represents each break mark to the front of an array.
 pub fn put_marks(marks: &[Mark], array: &mut [u8])
     requires { length marks.now ≤ length array.old }
     ensures { array.new ≡ put (map mark_number marks.now) array.old }
@@ -91,8 +91,8 @@ pub fn put_marks(marks: &[Mark], array: &mut [u8])
     put_each_mark(marks, &mut array[..marks.len()]);
 }
 
-/// Returns whether `len` elements fit in an array of `room` elements. If the array is not `wanted` (its
-/// pointer is NULL), returns true.
+/// Returns true if `len` elements fit in an array of `room` elements, or if the array is not `wanted`: its
+/// pointer is NULL.
 pub fn has_room(wanted: bool, len: usize, room: usize) -> bool
     ensures { result ≡ has_room wanted len room }
 {
@@ -109,7 +109,7 @@ pub fn put_levels_if(wanted: bool, list: &[u8], array: &mut [u8])
     }
 }
 
-/// Copies the numbers of marks to the front of an array, if the array is `wanted`.
+/// Writes the number that represents each break mark to the front of an array, if the array is `wanted`.
 pub fn put_marks_if(wanted: bool, marks: &[Mark], array: &mut [u8])
     requires { has_room wanted (length marks.now) (length array.old) ≡ true }
     ensures { array.new ≡ put_if wanted (map mark_number marks.now) array.old }
@@ -190,7 +190,7 @@ pub fn put_columns_if(wanted: bool, line: &VisualLine<'_>, array: &mut [usize])
     }
 }
 
-/// Copies bytes to an array if they fit, and stores their number in either case.
+/// Stores the number of bytes, and copies them to an array or, if they do not fit, returns `NoRoom`.
 pub fn put_bytes(bytes: &[u8], array: &mut [u8], len: &mut usize) -> Status
     ensures { PutsItems bytes.now result (array.old, len.old) (array.new, len.new) }
 {
@@ -202,7 +202,7 @@ pub fn put_bytes(bytes: &[u8], array: &mut [u8], len: &mut usize) -> Status
     Status::Ok
 }
 
-/// Copies positions to an array if they fit, and stores their number in either case.
+/// Stores the number of positions, and copies them to an array or, if they do not fit, returns `NoRoom`.
 pub fn put_ends(ends: &[usize], array: &mut [usize], count: &mut usize) -> Status
     ensures { PutsItems ends.now result (array.old, count.old) (array.new, count.new) }
 {

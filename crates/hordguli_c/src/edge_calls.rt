@@ -190,7 +190,7 @@ pub extern "C" fn hordguli_core_cluster_at(
     with_object!(session, alloc, object, find_cluster(&object, pos, cluster))
 }
 
-/// A word (`hordguli_word` in C). `kind` is 1 if it has an alphabetic or numeric character, else 0.
+/// A word (`hordguli_word` in C). `kind` is 1 if the word has an alphabetic or numeric character, else 0.
 #[repr(C)]
 #[derive(Clone, Copy)]
 pub struct WordOut {
@@ -241,11 +241,12 @@ pub struct SpanOut {
     pub right: usize,
 }
 
-// Returns the number of spans of a range. Positions are counted from the start of the line.
+// Returns how many spans a range covers in a line. The range is counted from the start of the line.
 fn span_count(line: &VisualLine<'_>, from: usize, to: usize) -> usize
     ensures { result ≡ length (spans_out line.now from to) }
 {
-    // The number of spans is at most the number of columns, which the contract of `columns_left` bounds.
+    // There are at most as many spans as columns, whose number is bounded by the contract of `columns_left`.
+    // So `count` does not overflow.
     let _columns = line.columns_left(line.vtol().len());
     let mut count = 0;
     for _span in line.spans(from, to) {
@@ -254,7 +255,8 @@ fn span_count(line: &VisualLine<'_>, from: usize, to: usize) -> usize
     count
 }
 
-// Writes the spans of a range to the front of an array. Positions are counted from the start of the line.
+// Writes the spans that a range covers in a line to the front of an array. The range is counted from the
+// start of the line.
 fn put_each_span(line: &VisualLine<'_>, from: usize, to: usize, array: &mut [SpanOut])
     requires { length (spans_out line.now from to) ≤ length array.old }
     ensures { array.new ≡ put (spans_out line.now from to) array.old }
@@ -311,7 +313,7 @@ fn find_spans(
     )
 }
 
-/// Stores the spans of columns that a range of characters covers in a line, if they fit, and their number.
+/// Stores how many spans of columns a range of characters covers in a line and, if they fit, the spans.
 #[unsafe(no_mangle)]
 pub extern "C" fn hordguli_core_spans(
     alloc: Global,
@@ -386,7 +388,8 @@ fn edge_of(pos: usize, side: u32) -> Option<Edge>
     Some(Edge { pos, side })
 }
 
-// Returns an edge and a direction, or `None` if a number is unknown.
+// Returns an edge and a direction, given the numbers of a side and of a direction, or `None` if either number
+// is unknown.
 fn step_of(pos: usize, side: u32, direction: u32) -> Option<(Edge, Direction)>
     ensures { result ≡ step_of pos side direction }
 {
@@ -494,8 +497,8 @@ fn find_step(
     }
 }
 
-/// Stores the edge after a step to the left or right from an edge, on the edge's line, and the number of
-/// steps: 1. If no step is possible, stores only the number 0.
+/// Moves one step to the left or right from an edge, on the edge's line. Stores the edge that is reached, and
+/// 1 as the number of steps. If no step is possible, stores only the number 0.
 #[unsafe(no_mangle)]
 pub extern "C" fn hordguli_core_step(
     alloc: Global,

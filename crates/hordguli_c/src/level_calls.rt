@@ -104,7 +104,7 @@ fn find_levels(
     }
 }
 
-/// Stores the level of each character of a paragraph, as it is before L1.
+/// Stores the level that each character of a paragraph has before L1.
 #[unsafe(no_mangle)]
 pub extern "C" fn hordguli_core_levels(
     alloc: Global,
@@ -200,7 +200,7 @@ pub struct CharacterOut {
     pub bracket: u8,
 }
 
-/// Returns the number for a bidi class in C.
+/// Returns the number that represents a bidi class in C.
 #[tactic(auto, unfolding(crate::specs::Levels::bidi_number))]
 pub fn bidi_number(class: BidiClass) -> u8
     ensures { result ≡ bidi_number class }
@@ -208,7 +208,7 @@ pub fn bidi_number(class: BidiClass) -> u8
     class as u8
 }
 
-/// Returns the number for a line breaking class in C.
+/// Returns the number that represents a line breaking class in C.
 #[tactic(auto, unfolding(crate::specs::Levels::line_number))]
 pub fn line_number(class: LineClass) -> u8
     ensures { result ≡ line_number class }

@@ -261,7 +261,8 @@ pub extern "C" fn hordguli_core_runs(
 // The maximum number of bytes reserved for output before its size is known.
 const FIRST_ROOM: usize = 1_024;
 
-// Returns the printed bytes of lines, to be copied to an array of `len` bytes.
+// Returns the printed bytes of lines. `len` is the capacity of the caller's array, and limits how many bytes
+// are reserved in advance.
 fn printed(
     alloc: Global,
     session: &SessionObject,
@@ -326,7 +327,8 @@ pub extern "C" fn hordguli_core_lines_utf8(
     )
 }
 
-// Returns characters as UTF-8, to be copied to an array of `len` bytes.
+// Returns characters as UTF-8. `len` is the capacity of the caller's array, and limits how many bytes are
+// reserved in advance.
 fn encoded(
     alloc: Global,
     session: &SessionObject,
@@ -550,7 +552,8 @@ pub extern "C" fn hordguli_core_utf16_of(
     )
 }
 
-/// Stores the position of the character that contains a UTF-8 byte, and the index of the byte within it.
+/// Stores the position of the character that contains a UTF-8 byte, and the index of the byte within that
+/// character.
 #[unsafe(no_mangle)]
 pub extern "C" fn hordguli_core_position_of_byte(
     alloc: Global,
@@ -571,7 +574,7 @@ pub extern "C" fn hordguli_core_position_of_byte(
 }
 
 /// Stores the position of the character that contains a UTF-16 code unit, and the index of the unit within
-/// it.
+/// that character.
 #[unsafe(no_mangle)]
 pub extern "C" fn hordguli_core_position_of_utf16(
     alloc: Global,

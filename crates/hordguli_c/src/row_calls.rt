@@ -30,9 +30,9 @@ use reorder::{ClusterClasses, reset_levels, visual_order};
 use std::alloc::{AllocError, Global};
 use ucd::{Tables, TextClasses};
 
-/// States, as a theorem, that a line of a paragraph equals the row of its characters. All characters of the
-/// line must be shown. With `reorder_clusters`, the line's clusters must be those that its characters form as
-/// a text of their own. Costs nothing at run time.
+/// States, as a theorem, that a line of a paragraph equals the row that its characters and levels form. All
+/// characters of the line must be shown. With `reorder_clusters`, the line's clusters must be those that its
+/// characters form as a text of their own. Costs nothing at run time.
 pub fn row_is_line()
     ensures { (tables : Tables) (options : Options) (margin : Option ℕ) (base : ℕ) (text levels : List ℕ)
         (infos : List CharInfo) (start stop : ℕ)
@@ -88,7 +88,8 @@ fn is_row(base: u32, characters: &[u32], levels: &[u8]) -> bool
         && are_levels(levels)
 }
 
-// Returns the characters of a row.
+// Converts the code points of a row to characters. Fails with the first of `NotACharacter` and `OutOfRange`
+// that applies, or with `NoMemory`.
 fn row_text(
     alloc: Global,
     base: u32,
@@ -111,7 +112,7 @@ fn row_text(
     }
 }
 
-// Returns the levels of a row after L1.
+// Returns the levels of a row after L1, given those before L1.
 #[tactic(auto, unfolding(crate::specs::Rows::row_levels))]
 fn levels_after_l1(
     alloc: Global,
@@ -244,8 +245,8 @@ fn put_each_shown(tables: &Tables, text: &[char], levels: &[u8], vtol: &[u32], a
     }
 }
 
-// Copies the characters of a row in visual order, mirrored, to the front of an array, if the array is
-// `wanted`.
+// Copies the characters of a row to the front of an array, in visual order and mirrored where L4 requires it,
+// if the array is `wanted`.
 fn put_shown_if(wanted: bool, tables: &Tables, row: &LaidRow, array: &mut [u32])
     requires levels { length row.now.levels.items ≡ length row.now.text.items }
     requires within { AreWithin (length row.now.text.items) row.now.vtol.items }

@@ -16,11 +16,12 @@ pub struct RunOut {
     pub zero: u32,
 }
 
-// Returns the number of runs of characters with these levels after L1.
+// Returns how many runs these levels after L1 form.
 fn run_count(levels: &[u8]) -> usize
     ensures { result ≡ length (runs_out levels.now) }
 {
-    // The number of runs is at most the number of characters, and the length of a slice is bounded.
+    // There are at most as many runs as levels, and the length of a slice is bounded. So `count` does not
+    // overflow.
     let _len = levels.len();
     let mut count = 0;
     for _run in level_runs(levels) {
@@ -29,7 +30,7 @@ fn run_count(levels: &[u8]) -> usize
     count
 }
 
-// Copies the runs of characters with these levels after L1 to the front of an array.
+// Copies the runs that these levels after L1 form to the front of an array.
 fn put_each_run(levels: &[u8], array: &mut [RunOut])
     requires { length (runs_out levels.now) ≤ length array.old }
     ensures { array.new ≡ put (runs_out levels.now) array.old }
@@ -46,7 +47,8 @@ fn put_each_run(levels: &[u8], array: &mut [RunOut])
     }
 }
 
-/// Copies the runs of characters with these levels after L1 to an array, if they fit. Stores their number.
+/// Stores how many runs these levels after L1 form, and copies the runs to an array or, if they do not fit,
+/// returns `NoRoom`.
 pub fn put_runs(levels: &[u8], array: &mut [RunOut], count: &mut usize) -> Status
     ensures { PutsItems (runs_out levels.now) result (array.old, count.old) (array.new, count.new) }
 {

@@ -118,7 +118,7 @@ fn put_each_script_run(runs: &[ScriptRun], array: &mut [ScriptRunOut])
     }
 }
 
-// Copies runs to an array if they fit, and stores their number in either case.
+// Stores the number of runs, and copies them to an array or, if they do not fit, returns `NoRoom`.
 fn put_script_runs(runs: &[ScriptRun], array: &mut [ScriptRunOut], count: &mut usize) -> Status
     ensures { PutsItems (map script_run_out runs.now) result
         (array.old, count.old) (array.new, count.new) }

@@ -34,7 +34,7 @@ pub enum OpenWidth {
     Units(u32),
 }
 
-// Opens a session with a new engine. After an error, returns the status of the fault.
+// Opens a session with a new engine. If this fails, returns the status for the fault.
 fn open_by(
     alloc: Global,
     engine: Engine,
@@ -57,7 +57,8 @@ fn open_by(
     }
 }
 
-// Opens a session, and stores it in a closed handle. The tables object lends its buffers to the session.
+// Opens a session, and stores it in a closed handle. Uses the buffers of the tables object while the session
+// is opened.
 fn open_at(
     alloc: Global,
     session: &mut SessionHandle,

@@ -11,7 +11,7 @@ use std::mem::replace;
 use std::ptr::null_mut;
 use store::TreeStore;
 
-/// The session at the address that a handle holds.
+/// The type of session whose address a handle holds.
 pub type SessionObject = Session<TreeStore<Kept>>;
 
 /// A handle of a session. Only `of_raw` and `into_raw` use its pointer, and `empty` makes a handle without an

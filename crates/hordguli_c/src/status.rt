@@ -24,7 +24,7 @@ pub enum Status {
     NotMeasured = 16,
 }
 
-/// Returns the number for a status in C.
+/// Returns the number that represents a status in C.
 #[tactic(auto, unfolding(crate::specs::Statuses::status_of))]
 pub fn number_of(status: Status) -> u32
     ensures status { status_of result ≡ status }
@@ -33,7 +33,7 @@ pub fn number_of(status: Status) -> u32
     status as u32
 }
 
-/// Returns the status of a fault.
+/// Returns the status for an `EditFault`.
 pub fn edit_status(fault: EditFault) -> Status
     ensures { result ≡ edit_status fault }
 {
@@ -46,7 +46,7 @@ pub fn edit_status(fault: EditFault) -> Status
     }
 }
 
-/// Returns the status of a fault of a call for measured text.
+/// Returns the status for an `AdvanceFault`.
 pub fn advance_status(fault: AdvanceFault) -> Status
     ensures { result ≡ advance_status fault }
 {

@@ -63,7 +63,7 @@ fn cause_number(cause: Cause) -> usize
     }
 }
 
-// Returns the status of a fault, and stores the fault unless an allocation failed.
+// Returns the status for a `TableFault`, and stores the fault unless an allocation failed.
 fn tell(fault: TableFault, out: &mut TableFaultOut) -> Status
     ensures { TellsFault fault.cause fault result out.old out.new }
 {
@@ -97,7 +97,7 @@ fn image_cause_number(fault: ImageFault) -> usize
     }
 }
 
-// Returns the status of a fault of an image, and stores the fault unless an allocation failed.
+// Returns the status for an `ImageFault`, and stores the fault unless an allocation failed.
 fn tell_image_fault(fault: ImageFault, out: &mut TableFaultOut) -> Status
     ensures { TellsImageFault fault result out.old out.new }
 {
@@ -112,7 +112,7 @@ fn tell_image_fault(fault: ImageFault, out: &mut TableFaultOut) -> Status
     Status::TableFault
 }
 
-// Allocates the object of a handle that owns these tables.
+// Allocates a handle's object, which owns these tables.
 fn boxed(alloc: Global, tables: Tables) -> Result<Box<TablesObject>, AllocError>
     ensures { IfOk result (λ object. object.value ≡ tables) }
 {
@@ -185,7 +185,7 @@ pub extern "C" fn hordguli_core_tables_read_version(
     number_of(read_into(alloc, tables, version, &files, fault))
 }
 
-// Decodes an image, and allocates the object of a handle that owns the decoded tables.
+// Decodes an image, and allocates a handle's object, which owns the decoded tables.
 fn decoded(alloc: Global, image: &[u8]) -> Result<Box<TablesObject>, ImageFault>
     ensures ok { IfOk result (λ object. IsImageOf image.now object.value) }
     ensures err { IfErr result (IsImageFault image.now) }

@@ -17,7 +17,8 @@ use stream::Page;
 use text_run::push_page;
 use ucd::Tables;
 
-// Buffers are kept after a call whose text and whose printed lines each have at most this number of bytes.
+// The maximum number of bytes that a text may have if its buffers are kept after a call. The same limit
+// applies to printed lines.
 const KEPT_BYTES: usize = 65_536;
 
 /// The object of a handle of tables. Contracts see only the tables: buffers kept for the next call never
@@ -67,7 +68,8 @@ impl Model for TablesObject {
 }
 
 impl TablesObject {
-    /// Makes an object with empty buffers. Fails only if the tables have 2^63 owners.
+    /// Returns an object that owns the tables and has empty buffers. Fails only if the tables have 2^63
+    /// owners.
     pub fn new(alloc: Global, tables: Tables) -> Result<TablesObject, AllocError>
         ensures { IfOk result (λ object. object ≡ tables) }
     {
@@ -104,7 +106,7 @@ impl TablesObject {
         }
     }
 
-    /// Copies the printed lines of a text to an array, if they fit, and stores the number of bytes. If
+    /// Stores the length of a text's printed lines in bytes and, if they fit, copies them to an array. If
     /// `separates` is set, only LF and CR end paragraphs. Only the engine used last keeps buffers.
     pub fn put_page(
         &mut self,
@@ -157,7 +159,8 @@ impl TablesObject {
     }
 }
 
-// Copies the printed lines of a text to an array, with an engine and buffers that are reused.
+// Lays out a text with an engine and buffers that are reused. Stores the length of the printed lines in bytes
+// and, if they fit, copies them to an array.
 fn put_page_by(
     alloc: Global,
     engine: &mut Engine,
@@ -194,7 +197,8 @@ fn put_page_by(
     status
 }
 
-// Frees the buffers that may be large. `len` is the length of the text in bytes.
+// Frees the buffers for the text, if it has more than `KEPT_BYTES` bytes, and the printed lines, if they do.
+// `len` is the length of the text in bytes.
 fn free_large(alloc: Global, engine: &mut Engine, buffers: &mut Buffers, len: usize)
     ensures { engine.new ≡ engine.old }
 {

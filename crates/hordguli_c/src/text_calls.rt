@@ -113,7 +113,8 @@ fn put_each_offset(text: &str, array: &mut [usize])
     requires { length array.old ≡ length (chars text.now) }
     ensures { array.new ≡ char_offsets (chars text.now) }
 {
-    // Each offset is less than the number of bytes, and the length of a slice is bounded.
+    // No offset exceeds the number of bytes, which is bounded as the length of a slice. So `offset` does not
+    // overflow.
     let _bytes = text.len();
     let mut k = 0;
     let mut offset = 0;

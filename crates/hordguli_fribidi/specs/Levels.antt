@@ -6,7 +6,7 @@ use Rattle.reorder.specs.Order.{highest}
 use Rattle.reorder.specs.Spaces.{line_levels}
 use Rattle.hordguli_fribidi.specs.Types.{base_of, bracket_by, class_of, direction_of}
 
--- the bracket numbers, one for each type; all are 0 if the lengths differ
+-- the bracket numbers, one for each of `len` types; all are 0 if `brackets` has another length
 abbrev pub brackets_of : ℕ → List ℕ → List ℕ
 brackets_of len brackets = if length brackets == len then brackets else replicate len 0
 
@@ -26,7 +26,8 @@ pub record AreLevels (types brackets : List ℕ) (asked answer direction : ℕ) 
   pub direction_is : direction ≡ direction_of (base_in types asked)
   pub levels_are : levels ≡ line_levels (base_in types asked) (map class_of types) (levels_before types brackets asked)
 
--- the direction that a first strong character with this level has, or ON if there is no such character
+-- the number of the first strong character's direction, given the level of that direction; ON if there is no
+-- such character
 abbrev pub first_direction : Option ℕ → ℕ
 first_direction (Some level) = direction_of level
 first_direction None = 64

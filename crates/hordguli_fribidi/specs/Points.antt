@@ -19,7 +19,8 @@ number_at index pages numbers c = slice_index_or numbers (entry_at index pages c
 abbrev pub bracket_at : List ℕ → List ℕ → List ℕ → ℕ → ℕ → ℕ
 bracket_at index pages numbers c type = if type == 64 then number_at index pages numbers c else 0
 
--- an array after the types or brackets of a string's code points were written, if the lengths are equal
+-- an array after the types or brackets of a string's code points were written to it; unchanged if the lengths
+-- differ
 abbrev pub types_at : List ℕ → List ℕ → List ℕ → List ℕ → List ℕ
 types_at index pages characters old = if length old == length characters then map (type_at index pages) characters else old
 

@@ -37,7 +37,7 @@ type_of PDI = 32864
 abbrev pub classes : List BidiClass
 classes = L ∷ R ∷ AL ∷ EN ∷ ES ∷ ET ∷ AN ∷ CS ∷ NSM ∷ BN ∷ B ∷ S ∷ WS ∷ ON ∷ LRE ∷ LRO ∷ RLE ∷ RLO ∷ PDF ∷ LRI ∷ RLI ∷ FSI ∷ PDI ∷ []
 
--- the numbers that have names in FriBidi: those of the classes, of WLTR and WRTL, and of its sentinel
+-- the numbers that have names in FriBidi: those of the classes, of WLTR and WRTL, and of the sentinel
 abbrev pub named : List ℕ
 named = map type_of classes ++ 32 ∷ 33 ∷ 128 ∷ []
 

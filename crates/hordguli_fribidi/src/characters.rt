@@ -45,7 +45,7 @@ fn type_past(c: u32, pages: &[u32; 65_536]) -> u32
     type_in(pages, 0, c)
 }
 
-/// Writes the types of the code points of a string, or changes nothing if the array has another length.
+/// Writes the type of each code point of a string to an array, or changes nothing if the lengths differ.
 #[unsafe(no_mangle)]
 pub extern "C" fn hordguli_fribidi_core_types(
     index: &[u8; 4352],
@@ -179,8 +179,8 @@ fn put_mirror(c: u32, mirror: u32, mirrored: &mut u32) -> u32
     u32::from(mirror != 0)
 }
 
-/// Writes the brackets of the code points of a string, or changes nothing if the lengths differ. A character
-/// whose type is not ON has no bracket.
+/// Writes the bracket of each code point of a string to an array, or changes nothing if the lengths differ. A
+/// character whose type is not ON has no bracket.
 #[unsafe(no_mangle)]
 pub extern "C" fn hordguli_fribidi_core_brackets(
     index: &[u8; 4352],

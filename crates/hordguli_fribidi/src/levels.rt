@@ -46,7 +46,8 @@ fn no_brackets(alloc: Global, len: usize) -> Result<Vec<BracketType>, AllocError
     Ok(brackets)
 }
 
-// Returns the bracket types of a paragraph. If the lengths differ, no character is a bracket.
+// Returns the bracket types of a paragraph of `len` characters. If `numbers` has another length, no character
+// is a bracket.
 #[tactic(auto, using(crate::proofs::BracketLemmas::none_are))]
 fn brackets_of(alloc: Global, len: usize, numbers: &[u32]) -> Result<Vec<BracketType>, AllocError>
     ensures brackets { IfOk result (λ brackets. brackets.items
@@ -61,7 +62,8 @@ fn brackets_of(alloc: Global, len: usize, numbers: &[u32]) -> Result<Vec<Bracket
     }
 }
 
-// Returns the base level of a paragraph, and replaces the contents of `levels` with its levels before L1.
+// Returns the base level of a paragraph, and replaces the contents of `levels` with the paragraph's levels
+// before L1.
 fn find_levels(
     alloc: Global,
     types: &[u32],
@@ -89,7 +91,7 @@ fn answer(levels: &[u8]) -> u32
     u32::from(highest) + 1
 }
 
-// Writes the levels of one line after L1 into an array.
+// Writes the levels after L1 to an array, given those before L1, with the paragraph as one line.
 fn put_levels(types: &[u32], base: u8, found: &[u8], levels: &mut [u8])
     requires types { length types.now ≡ length levels.old }
     requires found { length found.now ≡ length levels.old }

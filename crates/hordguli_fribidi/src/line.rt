@@ -30,10 +30,10 @@ fn arrange_if(types: &[u32], off: usize, levels: &[u8], marks: bool, array: &mut
     }
 }
 
-/// Reorders a line in place: applies L1 to its levels, and puts the line's part of the string and of the map
-/// into visual order. The string or the map may be missing: an array whose length is not that of `types` is
-/// unchanged. The arrays contain the paragraph up to the line's end. Returns one more than the line's highest
-/// level.
+/// Reorders a line in place: applies L1 to the line's levels, and puts the line's part of the string and of
+/// the map into visual order. The string or the map may be missing: an array whose length is not that of
+/// `types` is unchanged. The arrays contain the paragraph up to the line's end. Returns one more than the
+/// line's highest level.
 ///
 /// Returns 0 and changes nothing if, and only if, `levels` and `types` differ in length or `off` is past
 /// their end.

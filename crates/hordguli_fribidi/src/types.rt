@@ -39,7 +39,7 @@ pub fn class_of(number: u32) -> BidiClass
     }
 }
 
-/// A list of classes, given by their FriBidi numbers.
+/// A list of classes, each represented by its FriBidi number.
 #[derive(Clone, Copy)]
 pub struct TypeClasses<'a> {
     pub types: &'a [u32],

@@ -1,5 +1,5 @@
--- A line for which only the printed parts are computed. No contract of an exported function uses these
--- definitions.
+-- Visual lines, for code that computes only the parts that are printed. No contract of an exported function
+-- uses these definitions.
 use Rattle.std.specs.Prelude.{ℕ, nat_lt, Bool, ◌&&◌, ◌||◌, not, List, length, map, take, None}
 use Rattle.ucd.specs.Tables.{class_of}
 use Rattle.ucd.specs.declared.tables.Tables.{Tables}

@@ -1,9 +1,9 @@
--- `CharInfo`s without the ends of grapheme clusters. Most lines end at a break opportunity and do not need
--- these ends. No contract of an exported function uses these definitions.
+-- `CharInfo`s without regard to the ends of grapheme clusters. Most lines end at a break opportunity, so that
+-- these ends need not be found. No contract of an exported function uses these definitions.
 use Rattle.std.specs.Prelude.{◌≡◌, Bool, false, List, [], ◌∷◌, map}
 use Rattle.lines.specs.declared.char_info.CharInfo.{CharInfo}
 
--- a `CharInfo` without its cluster end
+-- a `CharInfo` with `ends_cluster` set to `false`
 abbrev pub bare : CharInfo → CharInfo
 bare p = record p { ends_cluster = false }
 

@@ -1,4 +1,4 @@
--- The `CharInfo`s of a paragraph, without the ends of clusters.
+-- The `CharInfo`s of a paragraph, with each `ends_cluster` set to `false`.
 use Rattle.std.specs.Prelude.{ℕ, false, List, [], ◌∷◌}
 use Rattle.ucd.specs.declared.tables.Tables.{Tables}
 use Rattle.breaks.specs.declared.mark.Mark.{Mark}

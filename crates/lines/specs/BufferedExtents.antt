@@ -1,5 +1,5 @@
--- Buffers that hold the line starts and shown parts of a paragraph at a width, and have enough items for each
--- line. No contract of an exported function uses this definition.
+-- Buffers that hold the line starts and shown parts of a paragraph at a width, and are long enough for each
+-- of its visual lines. No contract of an exported function uses this definition.
 use Rattle.std.specs.Prelude.{◌≡◌, ℕ, length, None}
 use Rattle.lines.specs.Buffers.{CanHold}
 use Rattle.lines.specs.CharInfos.{infos_of}

@@ -30,8 +30,8 @@ ordered_chars print visual = if print.nomirror then map (slice_index visual.text
 abbrev pub cells : Visual → ℕ → ℕ → List ℕ
 cells visual c k = if is_tab visual.tab_width (slice_index visual.text k) then replicate (width_at visual k) 32 else c ∷ []
 
--- characters in visual order, with spaces in place of tabs; `vtol` holds the position in the line of each
--- character
+-- characters in visual order, with spaces in place of tabs; `vtol` holds each character's position in the
+-- line
 abbrev pub expanded : Visual → List ℕ → List ℕ → List ℕ
 expanded visual (c ∷ chars) (k ∷ vtol) = cells visual c k ++ expanded visual chars vtol
 expanded visual chars vtol = []

@@ -1,4 +1,5 @@
--- Parts of a line that are printed in one step. No contract of an exported function uses this definition.
+-- Parts of a line that are printed in one step: a tab, or consecutive characters that contain no tab. No
+-- contract of an exported function uses this definition.
 use Rattle.std.specs.Prelude.{◌≡◌, ℕ, ◌+◌, ◌<◌, ◌≤◌, true, false, slice_index}
 use Rattle.lines.specs.Tabs.{is_tab}
 use Rattle.lines.specs.Visual.{Visual}

@@ -83,6 +83,6 @@ unfoldable pub infos_of : Tables → Options → Option (List ℕ) → List ℕ 
 infos_of t options advances text =
     sized advances (infos t (tab_width_in t options) text (marks_of t options.whole_numbers text) (cluster_ends text))
 
--- the columns of a line after one more character, given the columns before it
+-- the columns of a line after one more character, given the columns before that character
 abbrev pub advance : ℕ → CharInfo → ℕ
 advance column p = column + (if moves p.trailing then to_stop p.columns column else p.columns)

@@ -129,8 +129,8 @@ pub record AreLinesOf (rules : Rules) (text : List ℕ) (fill : Filled) : Type 0
   pub width : ℕ
   pub from_scratch : fill ≡ fill_of rules width text
 
--- A layout and a fill exchange their lines. If both were made from the same text with the same rules, each
--- one now has the lines for the width of the other one.
+-- A layout and a fill exchange their lines. If both have the same text and rules, the layout then has the
+-- lines at the fill's width, and the fill has those at the layout's width.
 pub record Exchanges (old new : Layout) (fill_old fill_new : Filled) : Type 0 where
   pub put : new ≡ record old { lines = fill_old.lines }
   pub taken : fill_new ≡ record { lines = old.lines; len = length old.text }
@@ -138,8 +138,8 @@ pub record Exchanges (old new : Layout) (fill_old fill_new : Filled) : Type 0 wh
       → (new ≡ layout_of rules other old.text) × (fill_new ≡ fill_of rules width old.text)
   pub stay : (rules : Rules) → IsLaidOut rules old → AreLinesOf rules old.text fill_old → IsLaidOut rules new × AreLinesOf rules new.text fill_new
 
--- The visible state of an engine: its rules, and how many characters were analysed, were filled into lines,
--- and had their lines written.
+-- The visible state of an engine: its rules, and three counts of characters: those analysed, those filled
+-- into lines, and those whose lines were written.
 pub record EngineState : Type 0 where
   pub rules : Rules
   pub analysed : ℕ

@@ -3,11 +3,12 @@ use Rattle.std.specs.Prelude.{◌≡◌, ℕ, ◌+◌, ◌*◌, ◌^◌, ◌<◌
 use Rattle.lines.specs.Visual.{Line}
 use Rattle.lines.specs.Widths.{widths_of}
 
--- the list, or `None` if the flag is false; for the advances of a line, the flag says whether it is measured
+-- the list, or `None` if the flag is false; for a list of advances, the flag says whether the line is
+-- measured
 abbrev pub given_if : Bool → List ℕ → Option (List ℕ)
 given_if is_given items = if is_given then Some items else None
 
--- the known widths, or the other ones for `None`
+-- the known widths or, if they are `None`, the other list
 abbrev pub known_or : Option (List ℕ) → List ℕ → List ℕ
 known_or None others = others
 known_or (Some widths) others = widths

@@ -58,7 +58,8 @@ pub record IsPrepared (paragraph : Paragraph) : Type 0 where
   pub room : HaveRoom (advances_in paragraph)
   pub marks : paragraph.marks.now ≡ marks_of paragraph.text.rules.tables.now paragraph.text.rules.options.whole_numbers paragraph.text.characters.now
 
--- the lines of a text at a width, given its advances, if it is measured, and the levels of its characters before L1
+-- the lines of a text at a width, given the levels of its characters before L1, and their advances if the
+-- text is measured
 abbrev pub lines_at : Option (List ℕ) → Text → List ℕ → ℕ → List Line
 lines_at advances text levels width =
     let tables = text.rules.tables.now in
@@ -80,7 +81,7 @@ shown_levels line =
 abbrev pub shown_of : LogicalLine → Visual
 shown_of line = shown_by line (shown_levels line)
 
--- the visual line that buffers hold: at the front of `maps`, its ltov and then its vtol
+-- the visual line at the front of the buffers; `maps` holds its ltov and then its vtol
 abbrev pub held_line : LogicalLine → VisualBuffers → Visual
 held_line line visual =
     let n = line.shown.len in

@@ -16,8 +16,8 @@ module _ (options : Options) where
   abbrev pub reorders : Bool
   reorders = options.reorder_clusters || options.reordernsm
 
-  -- the classes to which L3 is applied, given the classes and cluster ends of a line, and the levels of its shown
-  -- part
+  -- the classes that L3 uses: the bidi classes of the line or, with `reorder_clusters`, classes that mark the
+  -- clusters, given where clusters end and the levels of the shown part
   abbrev pub classes_by : List BidiClass → List Bool → List ℕ → List BidiClass
   classes_by classes ends levels = if options.reorder_clusters then cluster_classes ends levels else classes
 

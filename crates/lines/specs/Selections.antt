@@ -33,17 +33,17 @@ IsMeasured s = AreMeasured s.tab_width s.text.now s.is_measured s.advances.now s
 abbrev pub columns_on : Visual → ℕ → ℕ
 columns_on line place = width_at line (slice_index line.vtol place)
 
--- whether a visual position is in the line or at its end, with the number of columns to its left, and the
--- line has at most `PARAGRAPH_LIMIT` characters
+-- whether `at` is a visual position in the line or at its end, with the number of columns to the left of this
+-- position; the line has at most `PARAGRAPH_LIMIT` characters
 pub record IsReached (line : Visual) (at : Reached) : Type 0 where
   pub within : at.place ≤ length line.vtol
   pub column : at.column ≡ columns_left line at.place
   pub few : at.column ≤ 4294967295 * at.place
   pub limit : length line.vtol ≤ PARAGRAPH_LIMIT
 
--- Whether all characters that occupy columns, from visual position `old` up to `new`, are selected if
--- `inside` is true, and none of them is if `inside` is false. The character at `new`, if there is one,
--- occupies columns, and is selected only if `inside` is false.
+-- From visual position `old` up to `new`, the characters that occupy columns are all selected if `inside` is
+-- true, and all unselected if `inside` is false. The character at `new`, if there is one, occupies columns,
+-- and is selected only if `inside` is false.
 pub record Passes (s : Selection) (inside : Bool) (old new : ℕ) : Type 0 where
   pub forward : old ≤ new
   pub passed : (place : ℕ) → old ≤ place → place < new → 0 < columns_on (selected_in s) place → is_selected (selected_in s) s.start s.end place ≡ inside

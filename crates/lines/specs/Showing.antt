@@ -51,7 +51,7 @@ module _ (tables : Tables) (options : Options) (base : ℕ) (text levels : List 
   lines_shown (s ∷ t ∷ starts) (part ∷ parts) = line_showing part s t ∷ lines_shown (t ∷ starts) parts
   lines_shown starts parts = []
 
--- from s on, the lists hold the shown part of the line from s to e
+-- the lists hold the shown part of the line from s to e, starting at index s
 pub record IsPlaced (tables : Tables) (options : Options) (base : ℕ) (text old : List ℕ) (s e : ℕ) (part : Shown) (levels ltov vtol chars : List ℕ) : Type 0 where
   pub line_is : line_in levels ltov vtol chars s part ≡ line_showing tables options base text old part s e
   pub within : s + part.len ≤ e

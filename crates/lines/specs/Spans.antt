@@ -22,7 +22,7 @@ abbrev pub is_left_edge : (ℕ → Bool) → ℕ → Bool
 is_left_edge is_covered zero = is_covered zero
 is_left_edge is_covered (suc column) = is_covered (suc column) && not (is_covered column)
 
--- which of the columns below `width` are covered
+-- a test that says which columns are covered, and the width of the line
 module _ (is_covered : ℕ → Bool) (width : ℕ) where
   -- the interval from a column up to the first one that is not covered
   abbrev pub span_at : ℕ → Span

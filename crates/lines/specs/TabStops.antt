@@ -10,7 +10,7 @@ use Rattle.lines.specs.Widths.{sizes_of}
 abbrev pub size_at : Visual → ℕ → ℕ
 size_at line k = slice_index (sizes_of line.tab_width line.advances line.text) k
 
--- whether the shown character at a position is a tab that moves to a tab stop; a tab of size 0 does not
+-- whether the shown character at a position is a tab that moves to a tab stop; a tab of size 0 moves to none
 pub record IsTab (line : Visual) (k : ℕ) : Type 0 where
   pub within : k < length line.levels
   pub tab : is_tab line.tab_width (slice_index line.text k) ≡ true

@@ -3,7 +3,7 @@ use Rattle.std.specs.Prelude.{ℕ, ◌+◌, List, [], ◌∷◌, map, Option, No
 use Rattle.lines.specs.CharInfos.{size_in}
 use Rattle.lines.specs.Tabs.{is_tab, to_stop}
 
--- the advances of a text's characters; a character without an advance counts as 0
+-- the advances of a text's characters, with 0 for each character that has no advance
 abbrev pub advances_on : List ℕ → List ℕ → List ℕ
 advances_on advances [] = []
 advances_on [] (c ∷ text) = 0 ∷ advances_on [] text

@@ -8,10 +8,10 @@ use crate::reserve::grow;
 use breaks::Mark;
 use std::alloc::{AllocError, Global};
 
-/// The levels, the position maps, and the characters in visual order. `maps` holds the visual position of
-/// each logical position, and then the logical position of each visual position. If the buffers hold the
-/// lines of a paragraph, each map has one item per character, and a line's items start at the index of its
-/// first character. If the buffers are used for one line at a time, the line's items are at the front.
+/// Buffers for levels, position maps, and characters in visual order. `maps` holds the visual position of
+/// each logical position, and then the logical position of each visual position. If the buffers hold all
+/// lines of a paragraph, each map has one item per character of the paragraph, and a line's items start at
+/// the index of the line's first character. If they hold one line at a time, its items are at the front.
 #[derive(Drop)]
 pub(crate) struct VisualBuffers {
     pub(crate) levels: Vec<u8>,
@@ -44,7 +44,8 @@ impl VisualBuffers {
     }
 }
 
-/// Where each line of a paragraph starts, how much of it is shown, and the visual lines.
+/// Buffers for the lines of a paragraph: where each line starts, how much of it is shown, and its visual
+/// line.
 #[derive(Drop)]
 pub(crate) struct LineBuffers {
     pub(crate) extents: Extents,

@@ -48,7 +48,7 @@ pub struct CharInfo {
     pub ends_cluster: bool,
 }
 
-// A placeholder for the items of a new list, all of which are overwritten.
+// A placeholder that fills a new list before each item is overwritten.
 const NOTHING: CharInfo = CharInfo {
     columns: 0,
     trailing: Trailing::No,
@@ -60,7 +60,8 @@ impl CharInfo {
     ghost use Rattle.std.specs.Prelude.{ℕ, ◌+◌, ◌^◌, ◌<◌, ◌≤◌, ◌&&◌, nat_le};
     ghost use Rattle.lines.specs.CharInfos.{advance, is_space};
 
-    /// Returns the info for a character with this many columns, with `ends_cluster` set to `false`.
+    /// Returns the info for a character that is `columns` wide and has these properties. `ends_cluster` is
+    /// `false`.
     pub(crate) fn of(
         columns: u8,
         properties: Properties,
@@ -82,7 +83,7 @@ impl CharInfo {
         CharInfo::of_other(columns, properties, mark)
     }
 
-    // Returns the info for a character that does not move to a tab stop, with `ends_cluster` set to `false`.
+    // Implements `of` for a character that does not move to a tab stop.
     fn of_other(columns: u8, properties: Properties, mark: Mark) -> CharInfo
         ensures { (t : Tables) (tab_width c : ℕ) → columns ≡ columns_of c → properties ≡ properties_of t c
             → is_tab tab_width c ≡ false → result ≡ info t tab_width c mark false }
@@ -95,8 +96,8 @@ impl CharInfo {
         }
     }
 
-    /// Returns the width of a line up to the end of the character, given its size and the width of the line
-    /// before it.
+    /// Returns the width of a line up to and including the character. `size` is the character's size, and
+    /// `before` is the width of the line before the character.
     pub(crate) fn advance(self, size: u32, before: usize) -> usize
         requires { before < 2 ^ 60 }
         ensures columns { result ≡ advance before (record self { columns = size }) }
@@ -108,8 +109,8 @@ impl CharInfo {
         before + size as usize
     }
 
-    /// Returns whether the character is a space that ends within the margin, given its size and the width of
-    /// the line before it.
+    /// Returns whether the character is a space that ends within the margin. `size` and `before` are as in
+    /// `advance`.
     pub(crate) fn is_space_within(self, size: u32, before: u32, margin: u32) -> bool
         ensures { result ≡ (is_space self.trailing
             && nat_le (advance before (record self { columns = size })) margin) }
@@ -181,7 +182,8 @@ impl Sum {
     ghost use Rattle.lines.specs.Filling.{is_must};
     ghost use Rattle.lines.specs.declared.engine.TheConstants.{PARAGRAPH_LIMIT};
 
-    /// Adds up the columns of consecutive characters, and looks for tabs and mandatory breaks among them.
+    /// Returns the total columns of consecutive characters, and whether they contain a tab or a mandatory
+    /// break.
     #[inline(always)] // so that a group of known length needs no loop
     pub(crate) fn of(piece: &[CharInfo]) -> Sum
         requires { length piece.now ≤ PARAGRAPH_LIMIT }
@@ -299,7 +301,7 @@ fn put_infos(
     }
 }
 
-/// The number of characters that are tested together, or whose columns are added together.
+/// The number of characters in a group. A group is tested, or its columns are added up, in one step.
 pub(crate) const GROUP: usize = 8;
 
 // Implements `put_infos` if there are no tab stops.

@@ -1,5 +1,6 @@
 //! Finds where the grapheme clusters and the words of a paragraph end (UAX #29), using the crate
-//! `unicode_segmentation`.
+//! `unicode_segmentation`. A split point is the start or the end of a text, or a place between two characters
+//! at which a cluster ends in any context.
 ghost use Rattle.std.specs.Prelude.{◌≡◌, ℕ, ◌+◌, ◌<◌, ◌≤◌, ◌++◌, false, length, string_bytes};
 ghost use Rattle.std.specs.Prelude.{IfOk, OnErr, OnOk};
 ghost use Rattle.std.specs.Char.{encode_utf8};
@@ -34,15 +35,15 @@ impl ClusterBuffers {
         }
     }
 
-    /// Sets `ends` to a list that says, for each character of a paragraph, whether a grapheme cluster ends
-    /// after it.
+    /// Replaces the contents of `ends` with one item per character of a paragraph: whether a grapheme cluster
+    /// ends after the character.
     pub(crate) fn fill(&mut self, text: &[char], ends: &mut Vec<bool>) -> Result<(), AllocError>
         ensures { OnOk result (ends.new.items ≡ cluster_ends text.now) }
     {
         fill_cluster_ends(text, &mut self.utf8, ends)
     }
 
-    /// Sets `ends_cluster` for each character of a paragraph.
+    /// Sets `ends_cluster` in the info of each character of a paragraph.
     pub(crate) fn mark(&mut self, text: &[char], infos: &mut [CharInfo]) -> Result<(), AllocError>
         requires { length infos.old ≡ length text.now }
         ensures { OnOk result (infos.new ≡ with_ends infos.old (cluster_ends text.now)) }
@@ -65,8 +66,8 @@ pub fn cluster_ends(alloc: Global, text: &[char]) -> Result<Vec<bool>, AllocErro
     Ok(ends)
 }
 
-// Sets `ends` to a list that says, for each character of a paragraph, whether a grapheme cluster ends after
-// it. Overwrites `utf8` with the text.
+// Replaces the contents of `ends` with one item per character of a paragraph: whether a grapheme cluster ends
+// after the character. Overwrites `utf8` with the text.
 fn fill_cluster_ends(
     text: &[char],
     utf8: &mut String,
@@ -125,8 +126,8 @@ pub fn cluster_of(alloc: Global, text: &[char], k: usize) -> Result<(usize, usiz
 }
 
 /// Returns the ends of the clusters in the `len` characters from `start` on, counted from `start`. The last
-/// of these ends is `len`. Finds only the clusters between the last split point at or before these characters
-/// and the first one after them.
+/// of these ends is `len`, even if a cluster continues after it. Finds only the clusters between the last
+/// split point at or before these characters and the first one after them.
 pub fn ends_in(
     alloc: Global,
     text: &[char],
@@ -142,8 +143,7 @@ pub fn ends_in(
     part_ends(alloc, &ends, start - first, len)
 }
 
-// Returns the ends of the clusters in the `len` characters from `start` on, given where the text's clusters
-// end.
+// Implements `ends_in`. `ends[i]` says whether a cluster ends after character `i`.
 fn part_ends(
     alloc: Global,
     ends: &[bool],
@@ -255,8 +255,8 @@ fn can_split(last: char, next: char) -> bool
         )
 }
 
-// Returns whether no rule except GB9c joins a character of this class to the next one, if that one may start
-// a cluster.
+// Returns whether no rule except GB9c joins a character of this class to the next one, if `may_start` is true
+// for the next one's class.
 fn may_end(last: GraphemeClusterBreak) -> bool
     ensures { result ≡ may_end last }
 {
@@ -270,8 +270,9 @@ fn may_end(last: GraphemeClusterBreak) -> bool
     )
 }
 
-// Returns whether no rule except GB9c joins a character of this class to the one before it, if that one may
-// end a cluster. No rule except GB9c looks back past a boundary between two such characters.
+// Returns whether no rule except GB9c joins a character of this class to the one before it, if `may_end` is
+// true for the previous one's class. No rule except GB9c looks back past a boundary between two such
+// characters.
 fn may_start(next: GraphemeClusterBreak) -> bool
     ensures { result ≡ may_start next }
 {

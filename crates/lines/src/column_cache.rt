@@ -1,4 +1,5 @@
-//! A cache of the columns of characters. The columns of a character depend on the character alone.
+//! A cache of the columns of characters. The columns of a character depend on nothing else, so entries never
+//! become outdated.
 ghost use Rattle.std.specs.Prelude.{◌≡◌, ◌≤◌, ℕ, OnOk};
 ghost use Rattle.lines.specs.CharInfos.{columns_of};
 ghost use Rattle.lines.specs.ColumnCache.{is_right};
@@ -15,7 +16,7 @@ const ENTRIES: usize = 1_024;
 const AT_ONCE: usize = 8;
 
 /// A cache of the widths of characters, in columns. An entry is a code point times 4, plus the columns of the
-/// character. A new entry is 0, which says that U+0000 has no columns.
+/// character. New entries are 0, which is the correct entry for U+0000, since it has no columns.
 pub(crate) struct ColumnCache {
     entries: Vec<u32>,
 }
@@ -73,7 +74,7 @@ impl ColumnCache {
         self.look_up(c)
     }
 
-    /// Returns the sum of the columns of some characters.
+    /// Returns the total columns of the characters of a text.
     pub(crate) fn sum(&mut self, text: &[char]) -> u32
         requires { length text.now ≤ PARAGRAPH_LIMIT }
         ensures { result ≡ sum (map columns_of text.now) }
@@ -88,7 +89,8 @@ impl ColumnCache {
         sum + self.sum_of_each(rest)
     }
 
-    // Implements `sum` for a group of characters. Looks up no columns if each character is known to have one.
+    // Implements `sum` for a group of characters. Looks up no columns if a quick test shows that each
+    // character has one.
     #[inline(always)] // so that the loops over a group know its length
     fn sum_of_group(&mut self, group: &[char]) -> u32
         requires { length group.now ≡ AT_ONCE }
@@ -117,8 +119,8 @@ impl ColumnCache {
         sum
     }
 
-    // Finds the columns of a character that has no entry, and stores them in its entry if the cache has been
-    // prepared.
+    // Finds the columns of a character that is not in the cache. Stores them in the character's entry if
+    // `prepare` has allocated the entries.
     #[inline(never)]
     fn look_up(&mut self, c: char) -> u8
         ensures { result ≡ columns_of c }

@@ -3,8 +3,8 @@ ghost use Rattle.std.specs.Prelude.{◌≡◌, ◌≤◌, length, count_by};
 ghost use Rattle.std.specs.Str.{chars};
 ghost use Rattle.lines.specs.Counting.{is_lead_byte};
 
-// The number of bytes in a block. The count of a block fits in a `u8`, so vector instructions add 16 counts
-// at a time.
+// The number of bytes in a block. The number of lead bytes in a block fits in a `u8`, so vector instructions
+// add 16 counts at a time.
 const BLOCK: usize = 240;
 
 /// Returns the number of characters of a text.

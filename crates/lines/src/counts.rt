@@ -6,8 +6,8 @@ ghost use Rattle.lines.specs.Engine.{counted};
 use std::marker::Model;
 use ucd::Tables;
 
-/// A number of characters, saturating at 2^64−1. A count is neither `Copy` nor `Drop`: it can only be added
-/// to another one, or be dropped together with the tables used for the work.
+/// A number of characters, saturating at 2^64−1. A count is neither `Copy` nor `Drop`. It can only be added
+/// to another count, or dropped together with the tables used for the counted work.
 #[derive(Debug)]
 pub(crate) struct Count {
     value: u64,
@@ -36,7 +36,7 @@ impl Count {
         self.value
     }
 
-    /// Adds a number of characters.
+    /// Increases the count by `len`.
     pub(crate) fn raise(&mut self, len: usize)
         ensures counts { self.new ≡ counted self.old len }
         ensures least { self.old ≤ self.new }
@@ -54,8 +54,8 @@ impl Count {
     }
 }
 
-/// Proof that a number of characters was counted as filled into lines. The proof is not `Copy`, so filling
-/// the same characters twice requires two proofs.
+/// Proof that `len` characters were counted as filled into lines. It is not `Copy`, so filling the same
+/// characters twice requires two proofs.
 #[derive(Drop)]
 pub(crate) struct Counted {
     len: usize,
@@ -89,7 +89,7 @@ impl Counts {
         }
     }
 
-    /// Counts `len` characters as filled, before they are filled. Returns the proof.
+    /// Counts `len` characters as filled, and returns the proof that filling them requires.
     pub(crate) fn take_filled(&mut self, len: usize) -> Counted
         ensures counted { result ≡ len }
         ensures analysed { self.new.analysed ≡ self.old.analysed }
@@ -101,7 +101,7 @@ impl Counts {
         Counted { len }
     }
 
-    /// Counts `len` characters as analysed and filled, although an allocation for this work failed.
+    /// Counts `len` characters as analysed and filled. Called if an allocation fails before this work begins.
     pub(crate) fn count_refused(&mut self, len: usize)
         ensures analysed { self.new.analysed ≡ counted self.old.analysed len }
         ensures filled { self.new.filled ≡ counted self.old.filled len }

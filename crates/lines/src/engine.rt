@@ -43,7 +43,8 @@ use ucd::Tables;
 /// The maximum number of characters in a paragraph.
 pub const PARAGRAPH_LIMIT: usize = 1_048_576;
 
-// Checks the number that the documentation states, since contracts refer to the constant.
+// Contracts refer to the constant by name, so this checks that it has the value that the documentation
+// states.
 const _: () = prove!(PARAGRAPH_LIMIT == 1_048_576);
 
 /// Lays out paragraphs using its tables and options, and counts the work. The engine never lends its tables
@@ -154,7 +155,7 @@ impl Engine {
         self.work = None;
     }
 
-    /// Exchanges the buffers of two engines.
+    /// Exchanges the buffers of two engines, which keep their tables, options and counters.
     pub fn swap_buffers(&mut self, other: &mut Engine)
         ensures self_stays { self.new ≡ self.old }
         ensures other_stays { other.new ≡ other.old }
@@ -173,8 +174,8 @@ impl Engine {
         }
     }
 
-    /// Returns an empty list for the text of the next paragraph, which has about `len` characters. The list
-    /// has the capacity of a recycled text, if that capacity is suitable. Allocates nothing.
+    /// Returns an empty list for the text of the next paragraph, which has about `len` characters. Reuses the
+    /// list of a recycled text if its capacity is suitable. Allocates nothing.
     pub fn take_text(&mut self, alloc: Global, len: usize) -> Vec<char>
         ensures text { result.items ≡ [] }
         ensures same { self.new ≡ self.old }
@@ -251,9 +252,9 @@ impl Engine {
         self.counts.written.get()
     }
 
-    /// Returns whether a paragraph has exactly one line and this line fits the width, so that the line stays
-    /// the same. If spaces at the end of lines are shown, the line must not hide a space that would fit,
-    /// either. The paragraph must have been laid out with this engine's tables and options.
+    /// Returns whether a paragraph keeps its lines at another width: it has exactly one line, and this line
+    /// fits. If spaces at the end of lines are shown, the line must also hide no space that would fit. The
+    /// paragraph must have been laid out with this engine's tables and options.
     pub fn keeps_lines(&self, laid: &Laid, width: u32) -> bool
         ensures value { result ≡ keeps_lines (rules_of self.now) width laid.now }
         ensures lines { (advances : Option (List ℕ)) → IsTrue result
@@ -318,7 +319,7 @@ impl Engine {
 
     /// Lays out one paragraph that is measured: each character has an advance in a unit that the caller
     /// chooses, and the width is in that unit. The width must not be 0, and the advances must add up to less
-    /// than 2^32.
+    /// than 2^32. If an allocation fails, the text and the advances are freed.
     pub fn lay_out_measured(
         &mut self,
         alloc: Global,
@@ -443,14 +444,15 @@ impl Engine {
         ensures memory { IsErrOf result PrintFault.Memory → skips_lines print.now ≡ false }
         ensures counts { OnOk result (Prints (length text.now) print.now self.old self.new) }
 
-        // A failed write counts as much as a successful one, since the lines have been found by then.
+        // After a failed write, the counts are those of a successful call, since the lines have been found by
+        // then.
         ensures failed { ¬ (IsErrOf result PrintFault.Memory)
             → Prints (length text.now) print.now self.old self.new }
         ensures unwritten { IsErrOf result PrintFault.Memory → written_of self.new ≡ written_of self.old }
         ensures at_most { LaysOutAtMost (length text.now) self.old self.new }
 
-        // Even after a fault, the characters count as analysed. If lines are printed, they also count as
-        // filled. Otherwise they count as neither filled nor written.
+        // Even after a fault, the characters count as analysed. If lines are printed, the characters also
+        // count as filled. Otherwise, they count as neither filled nor written.
         ensures analysed { analysed_of self.new ≡ counted (analysed_of self.old) (length text.now) }
         ensures filled { skips_lines print.now ≡ false
             → filled_of self.new ≡ counted (filled_of self.old) (length text.now) }
@@ -476,8 +478,8 @@ impl Engine {
     }
 
     /// Writes the base direction of one paragraph of UTF-8 text, if `print.basedir` is set.
-    /// `print.skips_lines()` must be true. Writes the same bytes as [`Engine::write_paragraph`] at any width,
-    /// and counts the same characters. Fails only if the sink fails.
+    /// `print.skips_lines()` must be true. Writes the same bytes, and counts the same characters, as
+    /// [`Engine::write_paragraph`] does at any width. Fails only if the sink fails.
     ///
     /// Allocates nothing. Reads each byte once to count the characters, but decodes only the characters up to
     /// the one that decides the direction, which is usually the first one.
@@ -545,8 +547,8 @@ impl Engine {
 
     /// Replaces the lines of a paragraph with those at another width, given the extents at that width.
     /// Afterwards, `extents` holds the extents of the old lines. The paragraph must have been laid out with
-    /// this engine's tables and options. `scratch` must have capacity for the paragraph's characters, and
-    /// adds them to its count of characters whose lines were written. Allocates nothing.
+    /// this engine's tables and options. `scratch` must have capacity for the paragraph's characters. They
+    /// are added to its count of characters whose lines were written. Allocates nothing.
     pub fn reflow(&self, laid: &mut Laid, extents: &mut Extents, scratch: &mut ReflowScratch)
         requires laid { IsLaidOut (with_advances (rules_of self.now) laid.old.advances) laid.old }
         requires extents { (width : ℕ) × (extents.old
@@ -590,8 +592,8 @@ impl Engine {
     }
 
     /// Returns how the algorithm arrives at the level of each character of one paragraph (UAX #9, X1 to I2).
-    /// The levels are those of `lay_out`. Counts nothing. Needs time and memory proportional to the length of
-    /// the text.
+    /// The levels are those that `lay_out` finds. Counts nothing. Needs time and memory proportional to the
+    /// length of the text.
     pub fn level_reasons(
         &self,
         alloc: Global,
@@ -609,8 +611,8 @@ impl Engine {
     }
 
     /// Returns the rule that decides the break mark after each character of one paragraph (UAX #14), with the
-    /// bases and classes around the position. The marks are those of `lay_out`. Counts nothing. Needs time
-    /// and memory proportional to the length of the text.
+    /// bases and classes around this position. The marks are those that `lay_out` finds. Counts nothing.
+    /// Needs time and memory proportional to the length of the text.
     pub fn break_reasons(&self, alloc: Global, text: &[char]) -> Result<Vec<Reason>, AllocError>
         ensures reasons { IfOk result (λ list. list.items ≡ reasons_of (rules_of self.now).tables
             (rules_of self.now).options.whole_numbers text.now) }
@@ -661,7 +663,7 @@ impl Engine {
         }
     }
 
-    // Finds the layout of a paragraph, without its text.
+    // Lays out a paragraph, and returns the layout without the text.
     fn parts(
         &mut self,
         alloc: Global,

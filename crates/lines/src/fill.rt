@@ -99,7 +99,7 @@ impl Fill {
         }
     }
 
-    /// Returns the lists of the `Fill` as buffers, for reuse.
+    /// Converts the `Fill` to buffers, so that its lists can be reused.
     pub(crate) fn into_buffers(self) -> LineBuffers {
         let Fill {
             extents,

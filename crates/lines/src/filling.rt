@@ -144,7 +144,8 @@ fn first_end(rest: &[CharInfo]) -> usize
     rest.len() - 1
 }
 
-// Returns the index of the last character of the first line.
+// Returns the index of the last character of the first line without `nobreak`. `rest` must contain the
+// cluster ends.
 fn line_end<S: Sizes>(rest: &[CharInfo], ruler: Ruler<S>) -> usize
     requires { (0 < length rest.now) × (length rest.now ≤ PARAGRAPH_LIMIT) }
     ensures end { result ≡ line_end ruler.width (sized (S.given ruler.sizes) rest.now) }

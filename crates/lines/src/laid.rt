@@ -330,7 +330,7 @@ impl Laid {
         );
     }
 
-    // Copies the paragraph with other advances, and with the lines found with those advances.
+    // Returns a copy of the paragraph with other advances, and with the lines that were found with them.
     pub(crate) fn with_lines(
         &self,
         alloc: Global,
@@ -436,7 +436,7 @@ impl Laid {
     /// `start`. The last of these ends is `len`, even if a cluster continues after it.
     ///
     /// Reads the characters around `start` and `start + len` as `cluster` does, and the characters between
-    /// them.
+    /// these two positions.
     pub fn cluster_ends_in(
         &self,
         alloc: std::alloc::Global,
@@ -478,6 +478,7 @@ pub(crate) fn with_room(advances: Vec<u32>, tab_width: u8) -> Result<Vec<u32>, A
 }
 
 /// Replaces the stored widths of a measured paragraph with the widths that its characters have on `lines`.
+/// Does nothing if the paragraph is not measured or there are no tab stops: then no widths are stored.
 pub(crate) fn put_all_widths(
     is_measured: bool,
     text: &[char],

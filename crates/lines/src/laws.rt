@@ -50,8 +50,8 @@ pub fn runs_have_all_columns()
         (visuals (layout_of rules width text)) }
 {}
 
-/// States, as a theorem, that each line has a level and a position for each shown character, and that its
-/// position maps are inverses of each other, under any rules and at any width. Costs nothing at run time.
+/// States, as a theorem for any rules and width, that each line has a level and a position for each shown
+/// character, and that the line's position maps are inverses of each other. Costs nothing at run time.
 pub fn lines_are_ordered()
     ensures { (rules : Rules) (width : ℕ) (text : List ℕ)
         → All IsOrdered (visuals (layout_of rules width text)) }

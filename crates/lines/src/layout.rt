@@ -156,7 +156,8 @@ fn show_one_line(
     show_lines(paragraph, lines, written)
 }
 
-// Replaces the contents of `lines` with the lines of a paragraph. `infos` need not contain the cluster ends.
+// Replaces the contents of `lines` with the lines of a paragraph at a width. `infos` need not contain the
+// cluster ends.
 fn fill_lines_by(
     clusters: &mut ClusterBuffers,
     paragraph: &Paragraph<'_>,

@@ -12,7 +12,7 @@ use crate::whole::{is_whole, shown_len};
 use breaks::{marks_are_as_many, paragraphs_end_at_must};
 
 /// Returns how much of a paragraph is shown if a quick test finds that it is one line, and `None` otherwise.
-/// It is one line if it has no mandatory break before its end, and its shown part fits in the width.
+/// The test requires that no mandatory break comes before the end, and that the shown part fits in the width.
 pub(crate) fn one_line(text: &Text<'_>, width: u32, cache: &mut ColumnCache) -> Option<Shown>
     requires text { IsLookedUp text.now }
     requires limit { length text.now.characters.now ≤ PARAGRAPH_LIMIT }
@@ -39,8 +39,9 @@ pub(crate) fn one_line(text: &Text<'_>, width: u32, cache: &mut ColumnCache) -> 
     })
 }
 
-// Returns whether it is worth trying `one_line`. A paragraph with more characters than columns rarely fits.
-// Without tab stops and shown spaces, the width of a shown part is the sum of its characters' columns.
+// Returns whether `one_line` can be used and is likely to succeed. Tab stops and shown spaces are excluded,
+// so that the width is the sum of the columns of the characters before the tail. A paragraph with more
+// characters than `width` rarely fits.
 fn may_be_one_line(text: &Text<'_>, width: u32) -> bool
     ensures some { result ≡ true → 0 < length text.now.characters.now }
     ensures few { result ≡ true → length text.now.characters.now ≤ width }

@@ -16,8 +16,8 @@ pub(crate) struct LentRules<'a> {
 impl LentRules<'_> {
     ghost use Rattle.lines.specs.Tabs.{tab_width_in};
 
-    /// Returns the tab width, or 0 if tabs have no columns: without tab stops, or if U+0009 does not have
-    /// bidi class S.
+    /// Returns the distance between tab stops. Returns 0 if tabs have no columns, because there are no tab
+    /// stops or U+0009 does not have bidi class S.
     pub(crate) fn tab_width(&self) -> u8
         ensures { result ≡ tab_width_in self.now.tables.now self.now.options }
     {

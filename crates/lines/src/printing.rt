@@ -92,8 +92,9 @@ impl Workspace {
     }
 }
 
-// Returns whether `write_one_line` can write a paragraph: it is not empty, and is one line because `nobreak`
-// is set. In addition, its shown part does not depend on columns, and its characters are not printed.
+// Returns whether `write_one_line` can write a paragraph. The paragraph must be one line: it is not empty,
+// `nobreak` is set, and no mandatory break comes before the end. Tab stops, shown spaces and printed
+// characters are excluded, because they require columns.
 fn is_one_line(form: &Form<'_>, text: &Text<'_>) -> bool
     requires { IsLookedUp text.now }
     ensures nobreak { result ≡ true → text.now.rules.options.nobreak ≡ true }

@@ -70,7 +70,7 @@ impl Workspace {
     ghost use Rattle.lines.specs.Layouts.{AreWithin, HaveRoom, IsLaidOut, fill_of, with_advances};
     ghost use Rattle.lines.specs.Paragraphs.{rules_in};
 
-    /// Finds the extents of the lines of a laid-out paragraph at another width.
+    /// Finds where each line of a laid-out paragraph starts at another width, and how much of it is shown.
     pub(crate) fn extents(
         &mut self,
         alloc: Global,

@@ -232,8 +232,8 @@ pub(crate) fn reset_line(properties: &[Properties], base: u8, levels: &mut [u8])
     false
 }
 
-// The number of levels that are tested together. If the length of a list is not a multiple of it, the last
-// group overlaps the one before it, so that no levels have to be tested one by one.
+// The number of levels that are tested together, as a group. If the length of a list is not a multiple of
+// this number, the last group overlaps the previous group, so that no levels are tested one by one.
 const AT_ONCE: usize = 16;
 
 // Returns whether all levels are 0.
@@ -292,7 +292,7 @@ fn are_group_even(levels: &[u8]) -> bool
     odd == 0
 }
 
-/// Returns whether no level is odd. Does not read the list if all levels are known to be 0.
+/// Returns whether no level is odd. If `is_flat` is true, all levels must be 0, and the list is not read.
 pub(crate) fn is_plain(levels: &[u8], is_flat: bool) -> bool
     requires { is_flat ≡ true → (k : ℕ) → slice_index levels.now k ≡ 0 }
     ensures { result ≡ true → (k : ℕ) → is_odd (slice_index levels.now k) ≡ false }

@@ -64,7 +64,8 @@ fn shown_at<S: Sizes>(
     shown_of(&infos[start..end], sizes.from(start), margin)
 }
 
-// Returns how much of a line is shown, including the spaces of its tail up to the margin.
+// Returns how much of a line is shown: the characters before the tail and, if there is a margin, the spaces
+// that follow them and end within it.
 fn shown_of<S: Sizes>(line: &[CharInfo], sizes: S, margin: Option<u32>) -> Shown
     requires len { length line.now ≤ PARAGRAPH_LIMIT }
     requires room { (k : ℕ) → k ≤ length line.now → S.most sizes k < 2 ^ 32 }

@@ -24,12 +24,12 @@ pub fn advances_fit(advances: &[u32]) -> bool
 }
 
 /// The sizes of a paragraph's characters from some character on. The `infos` passed to the methods must start
-/// at the same character.
+/// at that character.
 pub(crate) trait Sizes: Copy {
     // The advances, if the paragraph is measured.
     ghost given: { Self → Option (List ℕ) };
 
-    // An upper bound on the total size of the first characters, given how many there are.
+    // An upper bound on the total size of the first n characters, given n.
     ghost most: { Self → ℕ → ℕ };
 
     /// Returns the sizes from character `start` on.
@@ -56,7 +56,7 @@ pub(crate) trait Sizes: Copy {
         ensures most { IfSome result (λ group. most self k + group.columns ≤ most self (k + GROUP)) };
 }
 
-/// Columns, which are stored in the characters' infos.
+/// Sizes in columns, which the characters' infos hold.
 #[derive(Clone, Copy)]
 pub(crate) struct ByColumns;
 
@@ -81,7 +81,7 @@ impl Sizes for ByColumns {
     }
 }
 
-/// Advances in the caller's unit. Characters past the last advance have size 0.
+/// Sizes that are advances, in the caller's unit. Characters past the last advance have size 0.
 #[derive(Clone, Copy)]
 pub(crate) struct ByAdvances<'a> {
     pub(crate) advances: &'a [u32],

@@ -84,7 +84,7 @@ impl<'a> Spans<'a> {
     ghost use Rattle.lines.specs.Spans.{spans_from};
     ghost use Rattle.lines.specs.declared.engine.TheConstants.{PARAGRAPH_LIMIT};
 
-    /// Returns the spans of a selection.
+    /// Creates an iterator over the spans of a selection.
     pub(crate) fn new(selection: Selection<'a>) -> Spans<'a>
         requires within { AreWithin (length selection.text.now) selection.vtol.now }
         requires measures { IsMeasured selection }
@@ -126,8 +126,9 @@ impl<'a> Iterator for Spans<'a> {
     }
 }
 
-// Skips the characters from `at` on that are selected if `inside` is true, or not selected if `inside` is
-// false. Also skips characters that occupy no columns. Returns the visual position after these characters.
+// Starting at `at`, skips selected characters if `inside` is true, and unselected ones if it is false, up to
+// the first other character. Always skips characters that occupy no columns. Returns the visual position
+// after these characters, with the number of columns to its left.
 fn pass(selection: &Selection<'_>, at: Reached, inside: bool) -> Reached
     requires within { AreWithin (length selection.now.text.now) selection.now.vtol.now }
     requires measures { IsMeasured selection.now }

@@ -201,8 +201,8 @@ impl<'a> VisualLine<'a> {
         }
     }
 
-    /// Returns the number of columns of the shown characters from position `start` up to `end`. Positions
-    /// past the last one are ignored.
+    /// Returns the total columns of the shown characters from position `start` up to `end`. Positions past
+    /// the last one are ignored.
     pub fn columns_between(&self, start: usize, end: usize) -> usize
         ensures value { result ≡ columns_between self.now start end }
         ensures fits { result < 2 ^ 63 }
@@ -253,9 +253,10 @@ impl<'a> VisualLine<'a> {
         })
     }
 
-    /// Returns the level runs of the shown part, from left to right: the longest ranges of characters at one
-    /// level after L1, in L2's order. The runs do not depend on `reordernsm` or `reorder_clusters`, since L3
-    /// moves characters only inside runs. Has the same cost as `reorder::level_runs`. Allocates nothing.
+    /// Returns the level runs of the shown part from left to right, in the visual order of L2. A level run is
+    /// a maximal range of adjacent characters that have the same level after L1. The runs do not depend on
+    /// `reordernsm` or `reorder_clusters`, since L3 moves characters only inside runs. Has the same cost as
+    /// `reorder::level_runs`. Allocates nothing.
     pub fn runs(&self) -> Runs<'a>
         ensures runs { result ≡ runs_of self.now.levels }
         ensures are { AreRuns self.now.levels result }

@@ -34,8 +34,8 @@ pub(crate) fn is_whole(text: &Text<'_>) -> bool
     end_no_line(&properties[..properties.len().saturating_sub(1)])
 }
 
-// The number of characters that are tested together. If the length of a text is not a multiple of it, the
-// last group overlaps the one before it, so that no characters have to be tested one by one.
+// The number of characters that are tested together, as a group. If the length of a text is not a multiple of
+// this number, the last group overlaps the previous group, so that no characters are tested one by one.
 const AT_ONCE: usize = 16;
 
 // Returns whether none of the characters is of a class after which a line must end. CR counts as such a class
@@ -93,7 +93,7 @@ pub(crate) fn shown_len(text: &Text<'_>) -> usize
 }
 
 /// Writes a one-line paragraph, given its levels before L1, and returns the number of bytes written. Uses the
-/// front of the buffers. Counts the characters.
+/// front of `visual` as scratch space. Counts the characters.
 pub(crate) fn write_whole<W: Sink>(
     writer: &mut W,
     form: &Form<'_>,

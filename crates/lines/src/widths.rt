@@ -52,7 +52,7 @@ pub(crate) fn put_widths(text: &[char], tab_width: u8, advances: &[u32], widths:
 }
 
 /// Returns the width of the character at index `k` of a line. `known` holds the widths of a measured line.
-/// For a tab of a line that is not measured, reads the characters back to the tab before it.
+/// For a tab of a line that is not measured, reads back to the previous tab or to the start of the line.
 pub(crate) fn width_at(text: &[char], tab_width: u8, known: Option<&[u32]>, k: usize) -> usize
     requires within { k < length text.now }
     requires known { IfSome known (λ list. length list.now ≡ length text.now) }
@@ -88,7 +88,8 @@ pub(crate) fn is_tab(tab_width: u8, c: char) -> bool
 }
 
 // Returns the total columns of the characters between the last tab before index `k` and `k`, or of all
-// characters before `k` if there is no such tab. A tab ends at a tab stop, and a line starts at one.
+// characters before `k` if there is no such tab. In both cases, the first of these characters starts at a tab
+// stop.
 fn since_stop(text: &[char], k: usize) -> usize
     requires { k ≤ length text.now }
     ensures { (tab_width : ℕ) → 0 < tab_width

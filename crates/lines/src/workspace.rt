@@ -23,8 +23,8 @@ use std::alloc::{AllocError, Global};
 use std::mem;
 use ucd::Properties;
 
-/// The buffers of an engine. If they are large enough for a paragraph, laying it out allocates only the parts
-/// that are kept.
+/// The buffers of an engine. If they are large enough for a paragraph, laying it out allocates only the lists
+/// of its layout.
 pub(crate) struct Workspace {
     pub(crate) analysis: Analysis,
     pub(crate) infos: InfoBuffers,
@@ -66,13 +66,14 @@ impl Workspace {
         }
     }
 
-    /// Keeps the lists of a layout that is no longer needed.
+    /// Keeps the lists of a layout that is no longer needed, for the next paragraph that is kept. Frees the
+    /// lists that were kept before.
     pub(crate) fn recycle(&mut self, laid: Laid) {
         (self.text, self.recycled) = laid.into_lists();
     }
 
-    /// Returns an empty list. The list has the capacity of a recycled text, if that capacity is suitable for
-    /// `len` characters (see `fits`).
+    /// Returns an empty list. Reuses the list of a recycled text if its capacity is suitable for `len`
+    /// characters (see `fits`).
     pub(crate) fn take_text(&mut self, alloc: Global, len: usize) -> Vec<char>
         ensures { result.items ≡ [] }
     {
@@ -101,7 +102,7 @@ fn fits(capacity: usize, len: usize) -> bool {
     capacity >= len && capacity - len <= len / 8 + 16
 }
 
-/// Returns an engine's workspace. Allocates the workspace if there is none yet.
+/// Returns an engine's workspace, and allocates it first if there is none yet.
 pub(crate) fn ready(
     work: &mut Option<Box<Workspace>>,
     alloc: Global,
@@ -115,8 +116,8 @@ pub(crate) fn ready(
     }
 }
 
-/// Finds the levels of paragraphs, and keeps the properties of the last paragraph's characters at the front
-/// of a list.
+/// Finds the levels of paragraphs. The front of `properties` holds the properties of the most recent
+/// paragraph's characters.
 pub(crate) struct Analysis {
     pub(crate) properties: Vec<Properties>,
     resolver: Resolver,
@@ -161,8 +162,8 @@ impl Analysis {
     }
 }
 
-/// If lines are ordered by clusters, sets `ends` to whether a grapheme cluster ends after each character of a
-/// paragraph. Otherwise, clears `ends`.
+/// If lines are ordered by clusters, replaces the contents of `ends` with one item per character of a
+/// paragraph: whether a grapheme cluster ends after the character. Otherwise, clears `ends`.
 pub(crate) fn fill_ends(
     clusters: &mut ClusterBuffers,
     options: Options,

@@ -98,7 +98,7 @@ pub fn of_line(line: &VisualLine<'_>) -> u64 {
     mixed(sum, written(line))
 }
 
-// Returns a digest of the columns of a range of a line, and of its level runs.
+// Returns a digest of the columns that a range of a line covers, and of the line's level runs.
 fn of_ranges(line: &VisualLine<'_>) -> u64 {
     let mut sum = 0;
     for span in line.spans(1, 5) {

@@ -69,7 +69,7 @@ fn of_session<S: ParagraphStore<Kept>>(session: &Session<S>) -> u64 {
     mixed(sum, printed(session))
 }
 
-// Returns a digest of the n-th line and paragraph.
+// Returns a digest of line `n` and of paragraph `n`.
 fn of_number<S: ParagraphStore<Kept>>(session: &Session<S>, n: usize) -> u64 {
     let mut sum = mixed_place(0, session.line_start(n));
     sum = mixed_place(sum, session.paragraph_start(n));
@@ -105,7 +105,7 @@ fn of_position<S: ParagraphStore<Kept>>(session: &Session<S>, pos: usize) -> u64
     mixed(sum, of_offset(session, pos))
 }
 
-// Returns a digest of the conversions of a position to offsets, and of an offset to positions.
+// Converts `offset` from a position to offsets, and from an offset to positions. Returns a digest of both.
 fn of_offset<S: ParagraphStore<Kept>>(session: &Session<S>, offset: usize) -> u64 {
     let mut sum = mixed_place(0, session.byte_of(offset));
     sum = mixed_place(sum, session.utf16_of(offset));

@@ -92,7 +92,7 @@ fn sum(parts: &[usize]) -> usize
     sum
 }
 
-// Exchanges the number of lines of each item.
+// Exchanges the number of lines of each item for its part.
 fn exchange<S: ParagraphStore<Item>>(store: &mut S, parts: &mut Vec<usize>) {
     if parts.len() == store.count() && sum(parts) < 1_000_000 {
         store.exchange_all(parts);

@@ -1,5 +1,5 @@
 //! Makes every library call that can run out of memory. A failed call must change nothing, or return the
-//! values passed to it. The call is then repeated. The program `oom_driver` makes these calls.
+//! values passed to it. The call is then repeated. The program `oom_driver` runs these tests.
 #![tactic(auto)]
 
 mod page;

@@ -8,10 +8,11 @@ use crate::tables::{engine, let_go};
 use lines::{Engine, Laid, PARAGRAPH_LIMIT};
 use std::alloc::Global;
 
-// One paragraph, with a letter for each of its lines at width 1.
+// One paragraph. At width 1, each character has a line of its own.
 const TEXT: &str = "a\u{5d0}(1)";
 
-/// Lays out a paragraph, and fills the paragraph again at another width.
+/// Lays out a paragraph, and fills it again at another width. Tries each call again after an allocation
+/// failure.
 pub fn try_calls(alloc: Global) -> Result<(), Wrong> {
     let mut engine = engine(alloc)?;
     let answer = try_calls_by(alloc, &mut engine);

@@ -80,8 +80,8 @@ fn check_refusal(engine: &Engine, fault: EditFault) -> Result<(), Wrong> {
     Ok(())
 }
 
-/// Executes each edit in its own session, and checks that a failed edit changes nothing. The check allocates
-/// nothing, and is also made before each edit.
+/// Executes each edit in its own session, and checks that a failed edit changes nothing. The comparison
+/// allocates nothing, and is also made before each edit.
 pub fn try_calls<S: ParagraphStore<Kept> + Drop>(alloc: Global) -> Result<(), Wrong> {
     let untouched: Session<S> = open(alloc)?;
     let answer = try_edits(alloc, &untouched);
@@ -130,7 +130,7 @@ fn try_edit_in<S: ParagraphStore<Kept>>(
     Ok(())
 }
 
-// Returns the damage of an edit that must succeed.
+// Returns the damage of an edit, or fails if the edit was refused.
 fn made(answer: Result<Damage, EditFault>) -> Result<Damage, Wrong> {
     match answer {
         Ok(damage) => Ok(damage),
@@ -138,7 +138,7 @@ fn made(answer: Result<Damage, EditFault>) -> Result<Damage, Wrong> {
     }
 }
 
-// Executes an edit, and tries again after an allocation failure.
+// Executes an edit. After an allocation failure, checks that the session is unchanged, and tries again.
 fn make_twice<S: ParagraphStore<Kept>>(
     session: &mut Session<S>,
     untouched: &Session<S>,

@@ -166,7 +166,7 @@ fn holds<S: ParagraphStore<Item>>(store: &S, names: &[u8]) -> bool {
     same
 }
 
-// Returns the replaced items, or the new items after an allocation failure.
+// Replaces items. Returns the old items, or the new items after an allocation failure.
 fn replace<S: ParagraphStore<Item>>(
     store: &mut S,
     range: Range<usize>,

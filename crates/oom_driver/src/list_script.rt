@@ -29,7 +29,7 @@ pub fn files(rt: &HostRuntime) -> Option<(String, String)> {
     Some((text, script))
 }
 
-/// Runs the script in one file on the text in another.
+/// Runs the script in the file `script` on the text in the file `text`. Fails if either cannot be read.
 pub fn run(rt: &HostRuntime, text: &str, script: &str) -> Result<(), ProgramFault> {
     let Ok(text) = fs::read(rt, text) else {
         return Err(UNREAD);

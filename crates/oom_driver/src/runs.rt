@@ -19,7 +19,7 @@ const LINES: Print = Print {
     ..ALL
 };
 
-/// Writes the lines of a text of two paragraphs.
+/// Writes the lines of a text of two paragraphs, and checks the output.
 pub fn try_text(alloc: Global) -> Result<(), Wrong> {
     let mut engine = engine(alloc)?;
     let answer = try_text_by(alloc, &mut engine);

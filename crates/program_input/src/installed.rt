@@ -6,7 +6,7 @@ use std::path::{Path, PathBuf};
 use std::{env, io};
 use ucd::Version;
 
-// The folders below the usual prefixes, for a program that cannot determine its own path.
+// The usual folders of a version's table files, which a program searches if it cannot determine its own path.
 fn usual_folders(version: Version) -> [&'static str; 2] {
     match version {
         Version::V15_0 => ["/usr/local/share/hordguli/ucd", "/usr/share/hordguli/ucd"],
@@ -17,9 +17,10 @@ fn usual_folders(version: Version) -> [&'static str; 2] {
     }
 }
 
-/// Returns the folder of a version's installed table files, or `None` if there is none. It is at `path`,
-/// relative to the program's folder. If `/proc` is not mounted, first looks for the program by the name with
-/// which it was started, and then for the folder in `/usr/local` and `/usr`.
+/// Returns the folder of a version's installed table files, or `None` if there is none. The folder is at
+/// `path`, relative to the program's folder. If `/proc` is not mounted, the program's path is not known. Then
+/// this function looks for the program by the name with which it was started. If this fails, it looks for the
+/// folder below `/usr/local/share` and `/usr/share`.
 pub fn installed_folder(
     rt: &HostRuntime,
     path: &str,

@@ -9,7 +9,7 @@ use std::fs::File;
 use std::io::{ErrorKind, Read, Stdout};
 use text_run::{RunFault, run_text};
 
-/// Reads all bytes of the file at `path`.
+/// Reads all bytes of the file at `path`. Fails with `Memory` if memory runs out, and otherwise with `Read`.
 pub fn read_text(rt: &HostRuntime, path: &str) -> Result<Vec<u8>, RunFault> {
     match fs::read(rt, path) {
         Ok(bytes) => Ok(bytes),
@@ -18,7 +18,8 @@ pub fn read_text(rt: &HostRuntime, path: &str) -> Result<Vec<u8>, RunFault> {
     }
 }
 
-/// Writes the output for each text, in the order of the arguments. Without files, reads standard input.
+/// Writes the output for each text, in the order of the arguments. Without files, reads standard input. Ends
+/// at the first error.
 pub fn write_texts(
     rt: &HostRuntime,
     output: &mut ToWrite<Stdout>,

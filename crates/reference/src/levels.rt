@@ -40,8 +40,8 @@ fn levels_of(alloc: Global, level: u8, types: &[BidiClass]) -> Result<Vec<u8>, A
         .collect(alloc)
 }
 
-// Returns the direction of a level. In a list that is a single isolating run sequence, this direction is also
-// sos and eos.
+// Returns the direction of a level. In a list that is a single isolating run sequence, the direction of the
+// base level is also sos and eos.
 fn direction(level: u8) -> BidiClass {
     if level % 2 == 1 {
         BidiClass::R

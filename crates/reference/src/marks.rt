@@ -51,7 +51,7 @@ pub fn reference_marks(
     Ok(())
 }
 
-// Lists the class of each base.
+// Appends the class of each base to `classes`.
 fn list_classes(
     tables: &Tables,
     first: &Character,

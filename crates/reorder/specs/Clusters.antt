@@ -6,7 +6,8 @@ use Rattle.ucd.specs.declared.bidi_class.BidiClass.{BidiClass}
 use Rattle.ucd.specs.declared.bidi_class.BidiClass.TheVariants.{NSM, ON}
 use Rattle.reorder.specs.Order.{is_odd}
 
--- for each character of a line, whether a cluster ends after it; and the levels of the line's shown part
+-- `ends` says for each character of a line whether a cluster ends after it, and `levels` has the levels of
+-- the line's shown part
 module _ (ends : List Bool) (levels : List ℕ) where
   -- whether a character and the character before it are in the same cluster and at the same level
   abbrev pub is_joined : ℕ → Bool

@@ -1,4 +1,4 @@
--- Reversing intervals of an array, as L2 does. Only the code uses these definitions.
+-- Reversing intervals of an array, as L2 does. No public contract uses these definitions.
 use Rattle.std.specs.Prelude.{◌≡◌, ℕ, ◌-◌, Bool, List, [], ◌∷◌, ◌++◌, ◌⊎◌, map, nat_le, if◌then◌else◌}
 use Rattle.ucd.specs.declared.bidi_class.BidiClass.{BidiClass}
 use Rattle.reorder.specs.Groups.{IsAlone, IsGroup}

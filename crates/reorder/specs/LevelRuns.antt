@@ -21,7 +21,8 @@ module _ (levels : List ℕ) where
   abbrev pub run_shown : ℕ → List ℕ
   run_shown s = if is_odd (slice_index levels s) then reverse (run_at s) else run_at s
 
-  -- a list in which the intervals of each level have been reversed, as in L2
+  -- the items after L2 has reversed the intervals for each level from the highest down to the given lowest
+  -- odd level, if any
   abbrev pub turned_by : List ℕ → Option ℕ → List ℕ
   turned_by items None = items
   turned_by items (Some low) = reversed_from levels low (suc (highest levels) - low) items

@@ -1,5 +1,5 @@
--- Which of two characters L2 puts to the left. The lowest level between them determines this. Only the code uses these
--- definitions.
+-- Which of two characters L2 puts to the left. The lowest level between them determines this. No public
+-- contract uses these definitions.
 use Rattle.std.specs.Prelude.{◌≡◌, ◌≢◌, ℕ, ◌-◌, ◌<◌, ◌≤◌, Bool, true, false, List, length, slice_index, Option, Some, None, ◌⊎◌}
 use Rattle.reorder.specs.Order.{is_odd}
 
@@ -29,7 +29,7 @@ module _ (levels : List ℕ) where
   abbrev pub IsLeftBy : (ℕ → Bool) → ℕ → ℕ → Type 0
   IsLeftBy turns x y = IsKept turns x y ⊎ IsTurned turns x y
 
-  -- Whether L2 puts x to the left of y. Both are reversed together for each level up to the lowest level
+  -- Whether L2 puts x to the left of y. L2 reverses both together, once for each level up to the lowest level
   -- between them, so their order changes if that lowest level is odd.
   abbrev pub IsLeft : ℕ → ℕ → Type 0
   IsLeft = IsLeftBy is_odd

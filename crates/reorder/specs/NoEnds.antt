@@ -1,4 +1,4 @@
--- Ranges without separators, which the scan for L1 may skip. Only the code uses this definition.
+-- Ranges without separators, which the scan for L1 may skip. No public contract uses this definition.
 use Rattle.std.specs.Prelude.{◌≡◌, ℕ, ◌<◌, ◌≤◌, false, List}
 use Rattle.ucd.specs.declared.bidi_class.BidiClass.{BidiClass}
 use Rattle.ucd.specs.Classes.{class_at}

@@ -50,9 +50,9 @@ module _ (levels : List ℕ) where
     pub before : 0 < run.start → slice_index levels (run.start - 1) ≢ run.level
     pub after : run.start + run.len < length levels → slice_index levels (run.start + run.len) ≢ run.level
 
-  -- Whether runs are those of the line from left to right. Each run is maximal, and each character is in
-  -- exactly one run. The characters of the runs, one run after another, are in visual order. So a sum over
-  -- all characters equals the sum over the runs.
+  -- Whether `runs` are the level runs of the line, from left to right. Each run is maximal, and each
+  -- character is in exactly one run. The characters of the runs, one run after another, are in visual order.
+  -- So the sum of a function over the characters of all runs equals its sum over the line.
   pub record AreRuns (runs : List Run) : Type 0 where
     pub maximal : All IsMaximal runs
     pub once : (place : ℕ) → place < length levels → count_by (has_place place) runs ≡ 1
@@ -65,7 +65,7 @@ module _ (levels : List ℕ) where
     pub level : (k : ℕ) → start ≤ k → k ≤ place → slice_index levels k ≡ slice_index levels place
     pub begins : begins_run start ≡ true
 
-  -- the remaining runs, the first of which begins at a position
+  -- the runs from the one that begins at the given position on, or none if no position is given
   unfoldable pub runs_left : Option ℕ → List Run
   runs_left None = []
   runs_left (Some start) = map run_from (items_from start run_starts)

@@ -80,7 +80,8 @@ fn count_from(start: u32, items: &mut [u32])
     }
 }
 
-/// Writes the logical position of each visual position of a line.
+/// Writes the logical position of each visual position of a line to `vtol`. With `reordernsm`, also applies
+/// L3.
 pub fn visual_places<C: Classes>(line: &C, levels: &[u8], reordernsm: bool, vtol: &mut [u32])
     requires line { length levels.now ≤ length (C.all line.now) }
     requires vtol { length vtol.old ≡ length levels.now }
@@ -94,7 +95,7 @@ pub fn visual_places<C: Classes>(line: &C, levels: &[u8], reordernsm: bool, vtol
     }
 }
 
-// Writes the logical position of each visual position according to L2.
+// Writes the logical position of each visual position, according to L2, to `vtol`.
 fn order_places(levels: &[u8], vtol: &mut [u32])
     requires vtol { length vtol.old ≡ length levels.now }
     requires limit { length levels.now ≤ u32.MAX }
@@ -212,7 +213,8 @@ fn last_same_len(levels: &[u8], start: usize, level: u8) -> usize
     first_set(others, levels.len() - start)
 }
 
-// Returns a bit for each of `LANES` levels, which is set if the level differs from `level`.
+// Compares the `LANES` levels from `start` on with `level`. Returns one bit for each, which is set if they
+// differ.
 #[inline(always)]
 fn others(levels: &[u8], start: usize, level: u8) -> u64
     requires { start + LANES ≤ length levels.now }
@@ -302,8 +304,7 @@ fn reverse_group<C: Classes>(line: &C, levels: &[u8], items: &mut [u32]) -> usiz
     len + 1
 }
 
-// Counts the marks at the front of a list, up to the first that is not directly to the left of the character
-// that it follows in logical order.
+// Counts the items at the front of a list, up to the first that is not bound to the next item (`is_bound`).
 fn bound_len<C: Classes>(line: &C, levels: &[u8], items: &[u32]) -> usize
     requires line { length levels.now ≤ length (C.all line.now) }
     requires items { AreWithin (length levels.now) items.now }

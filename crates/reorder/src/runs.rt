@@ -40,8 +40,9 @@ impl<'a> Model for Runs<'a> {
 }
 
 /// Returns the level runs of a line, from left to right, given its levels after L1. L3 moves characters only
-/// inside runs. Each call of `next` needs time at most linear in the length of the line. All calls together
-/// need time at most linear in the length times the highest level. Allocates nothing.
+/// inside runs, so it does not affect the result. Each call of `next` needs time at most linear in the length
+/// of the line. All calls together need time at most linear in the length times the highest level. Allocates
+/// nothing.
 pub fn level_runs(levels: &[u8]) -> Runs<'_>
     ensures runs { result ≡ runs_of levels.now }
     ensures are { AreRuns levels.now result }
@@ -78,7 +79,7 @@ impl<'a> Iterator for Runs<'a> {
     }
 }
 
-// Returns where the run directly to the right of another run begins, or `None` if there is no such run.
+// Returns the start of the run directly to the right of the given run, or `None` if there is no such run.
 fn run_after(levels: &[u8], start: usize, len: usize) -> Option<usize>
     requires start { start < length levels.now }
     requires begins { begins_run levels.now start ≡ true }
@@ -108,7 +109,7 @@ fn run_start(levels: &[u8], place: usize) -> usize
 }
 
 // Returns the character directly to the right of the one at `place`, or `None` if there is none. Skips, level
-// by level, adjoining characters that are to the left of that one.
+// by level, adjoining characters that are to the left of `place`.
 fn right_of(levels: &[u8], place: usize) -> Option<usize>
     requires { place < length levels.now }
     ensures { IsNext levels.now place result }

@@ -26,8 +26,8 @@ abbrev pub number_in : List ℕ → Option ℕ
 number_in text = if nat_lt 0 (length text) && (nat_le (length text) 9 && are_digits 10 text) then Some (number_by 10 text) else None
 
 -- An escape is a backslash followed by `n`, `r`, a backslash or `u{H}`. H is a Unicode scalar value in 1 to 6
--- hexadecimal digits. These definitions compute the character and the length of the whole escape from the text after
--- the backslash.
+-- hexadecimal digits. Given the text after the backslash, these definitions return the character and the
+-- length of the whole escape, or `None` if the escape is invalid.
 abbrev pub is_character : ℕ → Bool
 is_character n = nat_lt n 0xD800 || (nat_le 0xE000 n && nat_le n 0x10FFFF)
 

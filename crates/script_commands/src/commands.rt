@@ -1,4 +1,4 @@
-//! Parses the lines of an edit script. The parsers return `None` for a text in any other form.
+//! Parses the lines of an edit script. Each parser returns `None` for a text that does not have its form.
 ghost use Rattle.std.specs.Prelude.{◌≡◌, ◌+◌, ◌<◌, ◌≤◌, ◌^◌, List, ℕ, take, drop, length, true};
 ghost use Rattle.std.specs.Prelude.{IfOk, IfSome, None, OnErr, Some, is_some, option_map};
 ghost use Rattle.std.specs.Prelude.{if◌then◌else◌, string_bytes};
@@ -258,7 +258,7 @@ fn three(text: &[char]) -> Option<(usize, (usize, usize))>
     Some((number(first)?, both(rest)?))
 }
 
-// Parses a position and a side. Returns `true` for the side `after`.
+// Parses a position and a side. The second result is true for the side `after`.
 fn edge(text: &[char]) -> Option<(usize, bool)>
     ensures { result ≡ edge_in (parted text.now) }
 {
@@ -266,7 +266,7 @@ fn edge(text: &[char]) -> Option<(usize, bool)>
     Some((number(pos)?, choice(&BEFORE, &AFTER, side)?))
 }
 
-// Parses a side and a direction. Returns `true` for `after` and for `right`.
+// Parses a side and a direction. The results are true for `after` and for `right`.
 fn turn(text: &[char]) -> Option<(bool, bool)>
     ensures { result ≡ turn_in (parted text.now) }
 {
@@ -298,7 +298,7 @@ fn choice(one: &[char], other: &[char], text: &[char]) -> Option<bool>
     }
 }
 
-// Parses a line that is not a query.
+// Parses a line as `show`, `insert`, `delete` or `width`. Stores the text of an insert in `inserted`.
 fn read_edit_command(line: &[char], inserted: &mut String) -> Result<Option<Command>, AllocError>
     ensures ok { IfOk result (λ command. option_map (command_of (string_bytes inserted.new)) command
         ≡ edit_command_in line.now) }
@@ -426,8 +426,8 @@ fn has_right_escapes(text: &[char]) -> bool
     true
 }
 
-// Replaces the escapes in a text, and stores the result in `inserted`. Returns `false` if an escape is not
-// valid. Checks the escapes before allocating.
+// Replaces the escapes in a text, and stores the result in `inserted`. Returns `false`, and leaves `inserted`
+// unchanged, if an escape is not valid. Checks the escapes before allocating.
 fn unescape(text: &[char], inserted: &mut String) -> Result<bool, AllocError>
     ensures ok { IfOk result (λ right.
         (if right then Some (chars (string_bytes inserted.new)) else None) ≡ unescaped text.now) }

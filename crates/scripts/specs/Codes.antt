@@ -3,7 +3,7 @@ use Rattle.std.specs.Prelude.{ℕ, ◌+◌, ◌*◌, List, [], ◌∷◌, codes,
 use Rattle.ucd_script.specs.Script.{script_number}
 use Rattle.ucd_script.specs.declared.Script.{Script}
 
--- four letters as a number, with the first letter in the highest byte
+-- a code of four letters as a number, with the first letter in the highest byte
 abbrev pub tag : List ℕ → ℕ
 tag name = fold (λ n letter. n * 256 + letter) 0 name
 

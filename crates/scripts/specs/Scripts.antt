@@ -1,7 +1,7 @@
--- The script of each character of a text (UAX #24, sections 2.2, 5.1 and 5.2). A character whose property
--- Script is neither Common nor Inherited has this script. A closing bracket has the script of its opening
--- bracket. Any other character has the script of the character before it. At the start of the text, such
--- characters have the first script that follows, or Common if none does.
+-- The script of each character of a text (UAX #24, sections 2.2, 5.1 and 5.2). A character whose Script
+-- property is neither Common nor Inherited has that script. Otherwise, a closing bracket has the script of
+-- its opening bracket. Any other character has the script of the character before it. At the start of the
+-- text, such characters have the first script that follows, or Common if none does.
 use Rattle.std.specs.Prelude.{ℕ, ◌+◌, ◌==◌, Bool, ◌||◌, not, List, [], ◌∷◌, drop, find, map, option_and_then, option_map, position, slice_get, take, unwrap_or, Option, Some, None, if◌then◌else◌}
 use Rattle.ucd.specs.declared.bracket.Bracket.{Bracket}
 use Rattle.ucd_script.specs.Script.{script, script_eq}
@@ -9,7 +9,7 @@ use Rattle.ucd_script.specs.declared.Script.{Script}
 use Rattle.ucd_script.specs.declared.Script.TheVariants.{Common, Inherited}
 use Rattle.scripts.specs.declared.resolving.Opening.{Opening}
 
--- whether characters with this value of the property have the script of other characters
+-- whether a character with this value of the Script property takes the script of another character
 abbrev pub takes_script : Script → Bool
 takes_script script = script_eq script Common || script_eq script Inherited
 
@@ -18,8 +18,8 @@ first_script text = unwrap_or (find (λ own. not (takes_script own)) (map script
 
 -- ---- brackets (UAX #9, BD14 and BD15)
 
--- the index of the first opening bracket that a closing bracket matches, in a list of the open brackets from
--- the innermost outwards, or `None` if there is none
+-- the index of the innermost open bracket that a closing bracket matches, or `None` if it matches none; the
+-- list has the innermost bracket first
 abbrev pub matching : ℕ → List Opening → Option ℕ
 matching closing openings = position (λ opening. opening.closing == closing) openings
 
@@ -50,7 +50,8 @@ taken_script bracket c before openings =
 abbrev pub script_in : Option Bracket → ℕ → Script → List Opening → Script
 script_in bracket c before openings = if takes_script (script c) then taken_script bracket c before openings else script c
 
--- the scripts of characters, given the script before them and the brackets that are open
+-- the scripts of the characters of a text, given the script of the character before it and the brackets that
+-- are open there
 abbrev pub scripts_from : (ℕ → Option Bracket) → Script → List Opening → List ℕ → List Script
 scripts_from bracket_of before openings [] = []
 scripts_from bracket_of before openings (c ∷ text) =

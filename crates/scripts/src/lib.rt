@@ -1,5 +1,5 @@
-//! The scripts of a text (UAX #24): the script of each character, and the runs of one script. Common and
-//! Inherited characters take the script of other characters.
+//! The scripts of a text (UAX #24): the script of each character, and the runs of characters with the same
+//! script. Characters whose Script property is Common or Inherited take the script of another character.
 //!
 //! ```rust
 //! let scripts = resolve(alloc, tables, &['a', '(', 'א', ')', '.'])?;

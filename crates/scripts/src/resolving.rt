@@ -81,8 +81,8 @@ fn closed_by(
     }
 }
 
-// Returns the script that a character takes from other characters, given the script of the character before
-// it.
+// Returns the script that a character takes: from the opening bracket that it closes, or else from the
+// character before it.
 fn taken_script(
     bracket: Option<Bracket>,
     openings: &HeapCircularBuffer<Opening>,
@@ -114,7 +114,7 @@ fn script_in(
     }
 }
 
-// Updates the list of open brackets after a character, given the script of the character.
+// Updates the list of open brackets after a character with the given script.
 fn pass(
     bracket: Option<Bracket>,
     openings: &mut HeapCircularBuffer<Opening>,

@@ -12,7 +12,7 @@ remains c = not (is_dropped c)
 abbrev pub characters_of : List (ℕ × Style) → List ℕ
 characters_of shown = map (λ c. c.0) shown
 
--- No character that is shown is a dropped control.
+-- No text shows a control of a kind that is dropped.
 abbrev pub ShowsNoControls : Type 0
 ShowsNoControls = (pen : Pen) (text : List ℕ) → list_all remains (characters_of (styled pen text)) ≡ true
 

@@ -48,8 +48,8 @@ set_basic n look =
     else if nat_le 100 n && nat_lt n 108 then record look { background = Some (Basic (n - 92)) }
     else look
 
--- a parameter with one field, other than 38, 48 and 58; 0 sets the defaults, and unknown parameters change
--- nothing
+-- the attributes after a parameter with one field, other than 38, 48 and 58; 0 sets the defaults, and unknown
+-- parameters change nothing
 abbrev pub with_parameter : ℕ → Look → Look
 with_parameter n look =
     if n == 0 then PLAIN
@@ -57,7 +57,7 @@ with_parameter n look =
     else if nat_lt n 30 then end_attribute n look
     else set_basic n look
 
--- the effect of `4:k`
+-- the attributes after `4:k`, which sets the kind of underline; an unknown k changes nothing
 abbrev pub with_underline : ℕ → Look → Look
 with_underline k look =
     if k == 0 then record look { underline = None }

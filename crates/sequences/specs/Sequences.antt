@@ -26,13 +26,14 @@ csi_end text = prefix_len is_parameter text + prefix_len is_intermediate (drop (
 abbrev pub csi_len : List ℕ → Option ℕ
 csi_len text = if is_csi_final (slice_index text (csi_end text)) then Some (csi_end text + 1) else None
 
--- the length of an escape sequence, which is any intermediates and a final character, or `None` if there is
--- none
+-- the length of an escape sequence, which consists of any intermediates and a final character, or `None` if
+-- there is none
 abbrev pub escape_len : List ℕ → Option ℕ
 escape_len text =
     if is_escape_final (slice_index text (prefix_len is_intermediate text)) then Some (prefix_len is_intermediate text + 1) else None
 
--- the number of characters of a control string before its terminator
+-- the length of a control string without its terminator; a string that is too long may continue after these
+-- characters
 abbrev pub string_end : List ℕ → ℕ
 string_end text = prefix_len is_inline text
 

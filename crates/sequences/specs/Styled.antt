@@ -18,7 +18,7 @@ pub record Style : Type 0 where
 abbrev pub DEFAULT : Style
 DEFAULT = record { look = PLAIN; link = [] }
 
--- The state that a text passes on to the next: a style, the total length of the paragraph's links so far, and
+-- The state that a text passes on to the next: a style, the total length of the paragraph's links, and
 -- whether the last character is underlined and not bold.
 pub record Pen : Type 0 where
   pub style : Style

@@ -81,7 +81,7 @@ pub(crate) fn prefix_len(class: Class, text: &[char]) -> usize
     len
 }
 
-// Returns a character of a text, or U+0000 past its end.
+// Returns the character at an index of a text, or U+0000 past the end.
 pub(crate) fn char_at(text: &[char], at: usize) -> char
     ensures { result ≡ slice_index text.now at }
 {

@@ -46,7 +46,7 @@ impl Progress {
         progress
     }
 
-    /// Returns whether it is already known where the sequence ends, or known that there is no sequence.
+    /// Returns whether it is known where the sequence ends, or that there is none.
     pub fn is_known(self) -> bool
         ensures { result ≡ is_known self }
     {

@@ -110,7 +110,8 @@ fn escape_len(code: u32, rest: &[char]) -> Option<usize>
     }
 }
 
-/// Returns the number of characters of a string before its terminator, given the text after its introducer.
+/// Returns the length of a string without its terminator, given the text after its introducer. A string that
+/// is too long may continue after these characters.
 pub(crate) fn string_end(text: &[char]) -> usize
     ensures end { result ≡ string_end text.now }
     ensures within { result ≤ length text.now }

@@ -7,8 +7,8 @@ use crate::parts::part_end;
 /// The maximum total length of a paragraph's links, in characters. URIs are ASCII, so this is 1 MB.
 pub const MAX_LINKS_LEN: usize = 1_048_576;
 
-/// Returns the link that a string after OSC sets. The link is empty if the string ends a link. Returns `None`
-/// for any other string.
+/// Returns the link that an OSC string sets, given the text after OSC. The link is empty if the string ends a
+/// link. Returns `None` if the string is not a valid OSC 8.
 pub(crate) fn osc_link(text: &[char]) -> Option<&[char]>
     ensures { MatchOption result (osc_link text.now ≡ None) (λ link. osc_link text.now ≡ Some link.now) }
 {
@@ -18,8 +18,8 @@ pub(crate) fn osc_link(text: &[char]) -> Option<&[char]>
     }
 }
 
-// Returns the link that a string of parameters, a semicolon and a URI sets. The link is empty if the URI is
-// empty. Returns `None` if the string has no semicolon.
+// Returns the link that an OSC 8 string sets, given the text after `8;`: parameters, a semicolon and a URI.
+// The link is empty if the URI is empty. Returns `None` if there is no semicolon.
 fn uri_link(link: &[char]) -> Option<&[char]>
     ensures { MatchOption result (uri_link link.now ≡ None) (λ found. uri_link link.now ≡ Some found.now) }
 {

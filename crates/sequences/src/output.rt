@@ -241,8 +241,8 @@ fn push_link_between(before: &[char], after: &[char], out: &mut Vec<char>) -> Re
 }
 
 #[tactic(auto, unfolding(crate::specs::Output::between))]
-/// Appends the sequences that change the style from `before` to `after`. Lines begin and end in the default
-/// style. After a failed allocation, some characters may be missing.
+/// Appends the sequences that change the style from `before` to `after`. A line should begin and end in the
+/// default style. After a failed allocation, some characters may be missing.
 pub fn push_between(
     before: &StyleRef,
     after: &StyleRef,

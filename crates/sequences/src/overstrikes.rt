@@ -58,8 +58,8 @@ fn strike(after_underline: bool, at: Struck, c: char) -> Struck
     }
 }
 
-// Returns the character that follows a BS at the start of a text, and the text after it, or `None` if there
-// is no such character.
+// Returns the character that follows a BS at the start of a text, and the text after it. Returns `None` if
+// the text does not begin with a BS and a character that overstrikes may contain.
 fn after_backspace(text: &[char]) -> Option<(char, &[char])>
     ensures { MatchOption result (after_backspaces text.now ≡ []) (λ found.
         (after_backspaces text.now ≡ found.0 ∷ after_backspaces found.1.now)

@@ -22,7 +22,7 @@ fn number(digits: &[char]) -> u32
     n
 }
 
-/// Returns the index of the first separator, or the length of the text.
+/// Returns the index of the first separator, or the length of the text if there is none.
 pub(crate) fn part_end(separator: char, text: &[char]) -> usize
     ensures end { result ≡ position_or_len (λ c. c == separator) text.now }
     ensures within { result ≤ length text.now }

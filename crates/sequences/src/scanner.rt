@@ -40,7 +40,7 @@ impl Scanner {
     ghost use Rattle.sequences.specs.Overstrikes.{strikes, struck};
     ghost use Rattle.sequences.specs.StyledTexts.{styled_of};
 
-    /// Makes a scanner at the start of a file. Allocates nothing.
+    /// Creates a scanner in the default style, without characters. Allocates nothing.
     pub fn new(alloc: Global) -> Scanner
         ensures text { styled_of result.text ≡ [] }
         ensures pen { pen_of result ≡ START }
@@ -61,7 +61,8 @@ impl Scanner {
         self.link = self.text.clear(self.link);
     }
 
-    // Sets the link of the text that follows, or no link if the limit would be exceeded.
+    // Sets the link of the text that follows. Sets no link if the links of the paragraph would exceed
+    // `MAX_LINKS_LEN`.
     fn set_link(&mut self, link: &[char]) -> Result<(), AllocError>
         ensures text { styled_of self.new.text ≡ styled_of self.old.text }
         ensures pen { OnOk result (pen_of self.new ≡ with_link (pen_of self.old) (Some link.now)) }
@@ -85,7 +86,7 @@ impl Scanner {
         }
     }
 
-    // Applies an OSC string, given the text after its introducer.
+    // Applies an OSC string if it sets a link, given the text after its introducer.
     fn apply_osc(&mut self, text: &[char]) -> Result<(), AllocError>
         ensures text { styled_of self.new.text ≡ styled_of self.old.text }
         ensures pen { OnOk result (pen_of self.new ≡ with_osc (pen_of self.old) text.now) }
@@ -100,7 +101,7 @@ impl Scanner {
         }
     }
 
-    // Applies the sequence that a text begins with.
+    // Applies the sequence that a text begins with. Only SGR and OSC 8 have an effect.
     fn apply_sequence(&mut self, text: &[char]) -> Result<(), AllocError>
         ensures text { styled_of self.new.text ≡ styled_of self.old.text }
         ensures pen { OnOk result (pen_of self.new
@@ -139,7 +140,8 @@ impl Scanner {
         Ok(2 * count)
     }
 
-    // Processes the first part of a text, and returns its length.
+    // Processes the first part of a text: a sequence, a dropped control, or a character with the characters
+    // struck over it. Returns the length of the part. `text` consists of `first` and `rest`.
     fn pass(&mut self, first: char, rest: &[char], text: &[char]) -> Result<usize, AllocError>
         requires { text.now ≡ first ∷ rest.now }
         ensures len { IfOk result (λ len. len ≡ suc (more_len first rest.now)) }
@@ -159,7 +161,7 @@ impl Scanner {
         }
     }
 
-    // Appends characters without overstrikes.
+    // Appends characters without overstrikes, in the current style.
     fn push_plain(&mut self, run: &[char]) -> Result<(), AllocError>
         requires { 0 < length run.now }
         ensures text { OnOk result (styled_of self.new.text

@@ -43,7 +43,7 @@ fn changed(look: Look, parameter: &[char], following: &[char]) -> Look
     }
 }
 
-// Returns how many of the following parameters belong to a parameter.
+// Returns how many of the parameters in `following` belong to the parameter before them.
 fn taken(parameter: &[char], following: &[char]) -> usize
     ensures { result ≡ taken (fields_after parameter.now) (parameters_after following.now) }
 {

@@ -6,8 +6,8 @@ use crate::look::{Look, PLAIN};
 use crate::same_look::same_look;
 use std::alloc::{AllocError, Global};
 
-/// A range of a list of characters: a link's parameters, a semicolon and the link's URI. The range is empty
-/// if there is no link.
+/// The range of `StyledText::links` that holds a link: its parameters, a semicolon and its URI. The range is
+/// empty if there is no link.
 #[derive(Clone, Copy, Debug, PartialEq, Eq)]
 pub struct Link {
     pub start: usize,
@@ -38,7 +38,7 @@ pub struct StyleRef<'a> {
 pub struct StyledText {
     pub characters: Vec<char>,
     pub runs: Vec<StyleRun>,
-    /// The links of the runs, one after the other.
+    /// The text of all links that were added, one after the other.
     pub links: Vec<char>,
     ghost starts: { All (λ run. run.start ≤ length characters.items) runs.items },
     ghost linked: { All (λ run. run.link.start + run.link.len ≤ length links.items) runs.items },
@@ -96,7 +96,8 @@ impl StyledText {
         }
     }
 
-    /// Appends the text of a link. After a failed allocation, nothing has changed.
+    /// Appends the text of a link to `links`, and returns its range. After a failed allocation, nothing has
+    /// changed.
     pub fn add_link(&mut self, link: &[char]) -> Result<Link, AllocError>
         ensures link { IfOk result (λ added. take added.len (drop added.start self.new.links.items)
             ≡ link.now) }
@@ -178,7 +179,7 @@ impl StyledText {
     }
 }
 
-// Returns whether a run has a style.
+// Returns whether a run has these attributes and this link, as compared by `same_link`.
 fn has_style(run: StyleRun, look: Look, link: Link) -> bool
     ensures look { result ≡ true → same_look run.look look ≡ true }
     ensures link { result ≡ true → (links : List ℕ) → take run.link.len (drop run.link.start links)

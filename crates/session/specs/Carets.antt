@@ -30,7 +30,8 @@ caret_in line place =
     then record { line = place.line; column = leading_edge line place.offset; level = slice_index line.levels place.offset }
     else line_end place.line line
 
--- the caret at a place in a line; if the line does not exist yet, as for a new paragraph, in column 0
+-- the caret at a place in a line; in column 0 if the line does not exist yet because a new paragraph would
+-- start there
 abbrev pub caret_on : Rules → Option Visual → Place → Caret
 caret_on rules (Some line) place = caret_in line place
 caret_on rules None place = record { line = place.line; column = 0; level = base_of rules [] }

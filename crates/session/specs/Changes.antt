@@ -1,4 +1,4 @@
--- Which of the lines in the damage of a call have changed.
+-- Which of a call's damaged lines have changed.
 use Rattle.std.specs.Prelude.{◌≢◌, ℕ, ◌+◌, ◌-◌, ◌<◌, ◌≤◌, List, length, min, slice_get}
 use Rattle.std.specs.List.{All}
 use Rattle.lines.specs.Layouts.{Layout}
@@ -20,7 +20,7 @@ pub record AreChanged (old new : List Visual) (damage : Damage) (changed : Chang
   pub last_differs : 0 < changed.old_lines → 0 < changed.new_lines
       → slice_get old (changed.first_line + changed.old_lines - 1) ≢ slice_get new (changed.first_line + changed.new_lines - 1)
 
--- the value for no changed lines
+-- the value that names no lines as changed
 abbrev pub no_lines : ChangedLines
 no_lines = record { first_line = 0; old_lines = 0; new_lines = 0 }
 
@@ -40,6 +40,6 @@ without_same damage start end =
     let back = min end (most - front) in
     record { first_line = damage.first_line + front; old_lines = damage.old_lines - front - back; new_lines = damage.new_lines - front - back }
 
--- whether `changed` are the changed lines as in `AreChanged`, if each paragraph has at least one line
+-- if each paragraph has at least one line, `changed` names the changed lines (`AreChanged`)
 abbrev pub AreFound : List Layout → List Layout → Damage → ChangedLines → Type 0
 AreFound old new damage changed = All HasLines old → All HasLines new → AreChanged (lines_in old) (lines_in new) damage changed

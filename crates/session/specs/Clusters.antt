@@ -25,7 +25,7 @@ cluster_at kept pos =
 abbrev pub ends_of_text : List Layout → List Bool
 ends_of_text kept = flat_map (λ l. cluster_ends l.text) kept
 
--- the ends of the clusters of a line, counted from the line's start; `None` past the last line
+-- where the clusters in a line end, counted from the line's start; `None` past the last line
 abbrev pub line_clusters : List Layout → ℕ → Option (List ℕ)
 line_clusters kept n =
     option_and_then (λ start. option_map (λ line. ends_in (ends_of_text kept) start line.len) (slice_get (lines_in kept) n)) (slice_get (line_starts kept) n)

@@ -65,13 +65,13 @@ abbrev pub nearer_edge : ℕ → ℕ → CaretUnit → Edge
 nearer_edge start column unit =
     if nat_lt (column - left_column unit) (right_column unit - column) then left_edge start unit else right_edge start unit
 
--- the column of the edge on a side of character k
+-- the column of the edge before or after character k, depending on the side
 abbrev pub column_on : Side → Visual → ℕ → Cluster → ℕ → ℕ
 column_on Before line start cluster k = column_before line start cluster k
 column_on After line start cluster k = column_after line start cluster k
 
--- the caret on a side of character k of a line that starts at `start`, or at the line's end if the character
--- is not shown
+-- the caret before or after character k of a line that starts at `start`, depending on the side, or the caret
+-- at the line's end if the character is not shown
 abbrev pub caret_beside : Side → ℕ → Visual → ℕ → ℕ → Cluster → Caret
 caret_beside side n line start k cluster =
     if nat_lt k (length line.levels)
@@ -79,7 +79,7 @@ caret_beside side n line start k cluster =
     else line_end n line
 
 module _ (kept : List Layout) where
-  -- line n, and the position at which it starts
+  -- line n, and the position at which it starts; `None` past the last line
   abbrev pub line_at : ℕ → Option (Visual × ℕ)
   line_at n = option_and_then (λ line. option_map (λ start. (line, start)) (slice_get (line_starts kept) n)) (slice_get (lines_in kept) n)
 
@@ -91,17 +91,20 @@ module _ (kept : List Layout) where
   abbrev pub unit_at : Visual → ℕ → ℕ → Option CaretUnit
   unit_at line start column = option_and_then (λ place. unit_in line start (slice_index line.vtol place)) (covering line column)
 
-  -- the caret on a side of the character at `pos`; `place` is the place of that character
+  -- the caret before or after the character at `pos`, depending on the side; `place` is the place of that
+  -- character
   abbrev pub caret_of : Side → ℕ → Place → Option Caret
   caret_of side pos place = option_and_then (λ line. option_map (caret_beside side place.line line (pos - place.offset) place.offset) (cluster_at kept pos)) (slice_get (lines_in kept) place.line)
 
-  -- the edge after a step from a column of a line: the far end of the next unit in the direction, or `None`
+  -- the edge after a step from a column of a line: the far end of the next unit in the direction; `None` if
+  -- there is no such unit
   abbrev pub step_on : Visual → ℕ → ℕ → Direction → Option Edge
   step_on line start column Right = option_map (right_edge start) (unit_at line start column)
   step_on line start zero Left = None
   step_on line start (suc column) Left = option_map (left_edge start) (unit_at line start column)
 
-  -- the edge at a column, given the units, if any, that cover the column and the line's last column
+  -- the edge at a column, given the unit that covers the column and the one that covers the line's last
+  -- column, if they exist
   abbrev pub edge_by : ℕ → Option CaretUnit → Option CaretUnit → Edge
   edge_by start (Some unit) last = left_edge start unit
   edge_by start None (Some unit) = right_edge start unit
@@ -110,7 +113,8 @@ module _ (kept : List Layout) where
   abbrev pub edge_on : Visual → ℕ → ℕ → Edge
   edge_on line start column = edge_by start (unit_at line start column) (unit_at line start (columns_left line (length line.vtol) - 1))
 
-  -- the edge nearest to a column, given the units, if any, that cover the column and the line's last column
+  -- the edge nearest to a column, given the unit that covers the column and the one that covers the line's
+  -- last column, if they exist
   abbrev pub nearest_by : ℕ → ℕ → Option CaretUnit → Option CaretUnit → Edge
   nearest_by start column (Some unit) last = nearer_edge start column unit
   nearest_by start column None last = edge_by start None last
@@ -134,7 +138,8 @@ edge_caret_by rules kept After (suc pos) = if nat_le (length (text_of kept)) pos
 abbrev pub edge_caret_at : Rules → List Layout → Edge → Option Caret
 edge_caret_at rules kept edge = edge_caret_by rules kept edge.side edge.pos
 
--- the edge after a step from an edge; `None` if there is none in that direction, or the edge has no caret
+-- the edge after a step from an edge; `None` if no step is possible in that direction, or the edge has no
+-- caret
 abbrev pub step_at : Rules → List Layout → Edge → Direction → Option Edge
 step_at rules kept edge direction =
     option_and_then (λ caret. option_and_then (λ found. step_on kept found.0 found.1 caret.column direction) (line_at kept caret.line))
@@ -156,10 +161,10 @@ nearest_edge rules kept n column =
 abbrev pub end_of : List Layout → ℕ → ℕ
 end_of kept n = unwrap_or (slice_get (line_starts kept) (suc n)) (length (text_of kept))
 
--- The last edge of the line from position `start` up to `end`, which shows `visible` characters. The edge is
--- before the separator that ends the line, if there is one. Otherwise, on the text's last line, it is before
--- the end of the text. On other lines, it is before the first space that is not shown, or else after the last
--- character.
+-- The last edge, in logical order, of a line from position `start` up to `end`, of which `visible` characters
+-- are shown. The edge is before the separator that ends the line, if there is one. Otherwise, on the text's
+-- last line, it is before the end of the text. On other lines, it is before the first space that is not
+-- shown, or else after the last character.
 abbrev pub last_edge : Rules → List ℕ → ℕ → ℕ → ℕ → Edge
 last_edge rules text start end visible =
     let separators = separator_len rules.tables (slice_index text (max (end - 2) start)) (slice_index text (end - 1)) in

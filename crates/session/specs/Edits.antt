@@ -47,7 +47,7 @@ abbrev pub have_room : List ℕ → List (List ℕ) → Bool
 have_room advances [] = true
 have_room advances (p ∷ pars) = nat_lt (sum (take (length p) advances)) (2 ^ 32) && have_room (drop (length p) advances) pars
 
--- the reason for refusing the advances of paragraphs, or `None`; there is none if the text is not measured
+-- the reason for refusing the advances of paragraphs, or `None`; always `None` if the text is not measured
 abbrev pub room_refusal : Option (List ℕ) → List (List ℕ) → Option EditFault
 room_refusal None pars = None
 room_refusal (Some advances) pars = if have_room advances pars then None else Some ParagraphTooLong
@@ -74,7 +74,7 @@ refusal is_cut advances text edit =
     if nat_lt (length text) (edit.pos + edit.count) then Some OutOfRange
     else content_refusal is_cut (advances_after advances edit) (replaced text edit)
 
--- a text, its width and, if it is measured, the advances of its characters
+-- a text, the width of its lines and, if it is measured, the advances of its characters
 pub record Held : Type 0 where
   pub text : List ℕ
   pub width : ℕ

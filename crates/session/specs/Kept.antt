@@ -49,7 +49,7 @@ back_advances n advances = option_map (drop n) advances
 abbrev pub AreForEach : Option (List ℕ) → List ℕ → Type 0
 AreForEach advances text = IfSome advances (λ list. length list ≡ length text)
 
--- whether the totals of layouts fit in a `usize`
+-- whether the numbers of characters, lines, UTF-8 bytes and UTF-16 code units of all layouts fit in a `usize`
 pub record TotalsFit (kept : List Layout) : Type 0 where
   pub chars : sum_by (λ l. length l.text) kept < 2 ^ 64
   pub lines : sum_by (λ l. length l.lines) kept < 2 ^ 64
@@ -104,7 +104,7 @@ abbrev pub taken_from : Layout → Option LineExtents → Option LineExtents
 taken_from kept None = None
 taken_from kept (Some extents) = Some (extents_in kept.lines)
 
--- the number of characters whose lines are written: 0 without extents, and otherwise all of the paragraph
+-- the number of characters whose lines are written: 0 without extents, and otherwise the paragraph's length
 abbrev pub written_for : Layout → Option LineExtents → ℕ
 written_for kept None = 0
 written_for kept (Some extents) = length kept.text

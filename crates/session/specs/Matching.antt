@@ -24,7 +24,8 @@ pub record MatchingAtEnd (old new : Layout) (matching : Matching) : Type 0 where
 abbrev pub at_width : Rules → ℕ → Layout → Layout
 at_width rules width l = record l { lines = lines_of (rules_for rules l) width l.text }
 
--- each paragraph is laid out; `parts` has its extents at a width, or `None` if it keeps its only line
+-- each paragraph is laid out; `parts` has the extents of its lines at a width, or `None` if it keeps its only
+-- line
 pub record AreBrought (rules : Rules) (width : ℕ) (kept : List Layout) (parts : List (Option LineExtents)) : Type 0 where
   pub laid : All (IsFresh rules) kept
   pub brought : AllZip (BringsTo rules width) kept parts

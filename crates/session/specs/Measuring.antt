@@ -1,4 +1,4 @@
--- What the calls that set the width or the advances of a measured session do.
+-- The effects of the calls that set the width or the advances of a measured session.
 use Rattle.std.specs.Prelude.{◌≡◌, ℕ, ◌+◌, ◌-◌, ◌<◌, ◌≤◌, nat_lt, Bool, List, ◌++◌, length, take, Option, Some, None, option_map, if◌then◌else◌}
 use Rattle.std.specs.List.{concat, slice_range}
 use Rattle.bidi.specs.Cuts.{paragraphs}
@@ -69,7 +69,7 @@ pub record Cover (pars : List (List ℕ)) (pos count first number : ℕ) : Type 
   pub last_has : 0 < count → start_of pars (first + number - 1) < pos + count
   pub after : 0 < count → pos + count ≤ start_of pars (first + number)
 
--- the damage names the paragraphs of the range and their lines, and how many lines replace them
+-- the damage names the paragraphs of the range, their old lines, and how many lines replace the old ones
 pub record IsMeasuredDamage (pos count : ℕ) (old new : List Layout) (damage : Damage) : Type 0 where
   pub covered : Cover (pars_of old) pos count damage.first_par damage.old_pars
   pub new_pars : damage.new_pars ≡ damage.old_pars

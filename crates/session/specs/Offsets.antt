@@ -46,7 +46,7 @@ pub record IsUnitAt (encoding : Encoding) (text : List ℕ) (offset pos rest : �
   pub rest_is : length_in encoding before + rest ≡ offset
   pub within : rest < size_in encoding char
 
--- the number of units in the paragraphs before the one that was found
+-- the number of units in all paragraphs before the found one
 abbrev pub before_in : Encoding → Found → ℕ
 before_in Utf8 found = found.bytes_before
 before_in Utf16 found = found.utf16_before

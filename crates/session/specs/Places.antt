@@ -40,12 +40,12 @@ place_in kept pos = record {
   offset = pos - slice_index (line_starts kept) (count_to pos (line_starts kept) - 1);
 }
 
--- the place of the end of the text if a new paragraph would start there
+-- the place of the end of a text, for a text at whose end a new paragraph would start
 abbrev pub next_place : List Layout → Place
 next_place kept = record { paragraph = length kept; line = length (lines_in kept); offset = 0 }
 
--- Whether a new paragraph would start at the end of a text: if the text is empty, or if there is a paragraph
--- boundary between two copies of its last character.
+-- Whether a new paragraph would start at the end of a text. It would if the text is empty, or if there is a
+-- paragraph boundary between two copies of the text's last character.
 abbrev pub is_closed : Rules → List ℕ → Bool
 is_closed rules text =
     let last = slice_index text (length text - 1) in

@@ -32,11 +32,11 @@ module _ (rules : Rules) where
   filled_by held (Delete pos count) = fresh (paragraphs (cut_by rules) held.text) (deletion pos count)
   filled_by held (SetWidth width) = changed rules width (layouts_at rules held)
 
-  -- the work of an edit, which is 0 if the edit is refused
+  -- an upper bound on the work of any edit, which is 0 for a refused edit
   abbrev pub work_of : (Held → Edit → ℕ) → Held → Edit → ℕ
   work_of work held edit = if is_none (edit_refusal held edit) then work held edit else 0
 
-  -- the total work of a list of edits that are executed in order
+  -- the sum of these bounds for edits that are executed in order
   abbrev pub work_of_all : (Held → Edit → ℕ) → Held → List Edit → ℕ
   work_of_all work held [] = 0
   work_of_all work held (edit ∷ edits) = work_of work held edit + work_of_all work (after_one (cut_by rules) held edit) edits
@@ -53,7 +53,7 @@ module _ (rules : Rules) where
   TakesMemory held (SetWidth width) = 0 < length held.text
 
   -- The run stopped at `edit`, after the edits in `front`. This edit is not refused and may allocate. The
-  -- counters may include its work.
+  -- work counters may include the work of `edit`.
   pub record StopsAt (start : Held) (edits : List Edit) (now : Held) (old new : Engine) : Type 0 where
     pub front : List Edit
     pub edit : Edit

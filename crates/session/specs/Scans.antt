@@ -1,4 +1,4 @@
--- What a scan has found in the characters that it has read.
+-- What the fields of a scan hold after it has read a text.
 use Rattle.std.specs.Prelude.{◌≡◌, ℕ, ◌-◌, min, Bool, true, not, List, [], length, drop, slice_get, slice_index_or, sum}
 use Rattle.bidi.specs.Cuts.{paragraphs}
 use Rattle.session.specs.Edits.{are_within, have_room}
@@ -9,7 +9,7 @@ use Rattle.lines.specs.declared.engine.TheConstants.{PARAGRAPH_LIMIT}
 abbrev pub is_long_scan : Scan → Bool
 is_long_scan scan = scan.is_long
 
--- whether a scan of a text holds its last character, the length of its last paragraph (capped at the limit)
+-- whether a scan holds the last character of a text, the length of the last paragraph (capped at the limit)
 -- and, in `is_long`, whether any paragraph is too long
 pub record HasScanned (is_cut : ℕ → ℕ → Bool) (text : List ℕ) (scan : Scan) : Type 0 where
   pub last : scan.last ≡ slice_get text (length text - 1)
@@ -23,8 +23,9 @@ is_over_scan scan = scan.is_over
 abbrev pub last_paragraph : List (List ℕ) → List ℕ
 last_paragraph pars = slice_index_or pars (length pars - 1) []
 
--- Whether a scan of a text holds its last character and, in `is_over`, whether the advances of any paragraph
--- add up to 2^32 or more. If none do, the scan also holds the sum of the last paragraph's advances.
+-- Whether a scan holds the last character of a text and, in `is_over`, whether the advances of any paragraph
+-- add up to 2^32 or more. If there is no such paragraph, the scan also holds the sum of the last paragraph's
+-- advances.
 pub record HasSummed (is_cut : ℕ → ℕ → Bool) (text advances : List ℕ) (scan : RoomScan) : Type 0 where
   pub last : scan.last ≡ slice_get text (length text - 1)
   pub each : length advances ≡ length text

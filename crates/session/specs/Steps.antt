@@ -29,7 +29,7 @@ module _ (kept : List Layout) (line : Visual) (start : ℕ) where
     pub within : right_of unit ≤ line.columns
     pub whole : (c : ℕ) → left_of unit ≤ c → c < right_of unit → unit_at kept line start c ≡ Some unit
 
-  -- whether the units of a line tile its columns: each column belongs to exactly one unit
+  -- whether the units of a line tile the line's columns: each column belongs to exactly one unit
   abbrev pub UnitsTile : Type 0
   UnitsTile = (column : ℕ) → column < line.columns → (unit : CaretUnit) × Covers column unit
 
@@ -101,8 +101,8 @@ pub record IsLastTo (rules : Rules) (kept : List Layout) (n : ℕ) (line : Visua
   pub within : to.column ≤ column
   pub last : (c : ℕ) → IsBoundary kept line start c → c ≤ column → c ≤ to.column
 
--- Whether the units of each line tile its columns, and the edge at a column is at the last boundary that is
--- not past it. From each edge, a step leads to the nearest boundary, and repeated steps reach all boundaries
+-- Whether the units of each line tile the line's columns. The edge at a column is at the last boundary up to
+-- that column. From each edge, a step leads to the nearest boundary, and repeated steps reach all boundaries
 -- in their direction. From a boundary, a step and a step back return to the same column.
 pub record StepsAreNearest (rules : Rules) (kept : List Layout) : Type 0 where
   pub tile : (n : ℕ) (line : Visual) (start : ℕ) → line_at kept n ≡ Some (line, start) → UnitsTile kept line start

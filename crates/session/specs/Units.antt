@@ -59,8 +59,8 @@ module _ (line : Visual) (start : ℕ) (cluster : Cluster) where
       let low = max shown_begin (run_begin line k) in
       unwrap_or (least (takes_columns line) low (k - low)) k
 
-  -- the end of the unit of character k: the first character that takes columns in a later level run of the
-  -- cluster, or else the end of the shown part
+  -- the end of character k's unit: the first character of the cluster that takes columns in a later level
+  -- run, or else the end of the cluster's shown part
   abbrev pub unit_end : ℕ → ℕ
   unit_end k = unwrap_or (least (takes_columns line) (run_end line k) (shown_end - run_end line k)) shown_end
 

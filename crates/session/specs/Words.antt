@@ -15,8 +15,8 @@ use Rattle.session.specs.declared.words.Word.{Word}
 abbrev pub has_letter : List ℕ → Bool
 has_letter text = list_any (λ c. is_alphabetic c || is_numeric c) text
 
--- The word of character k of a paragraph that starts at `start`. `ends` says after which characters there is
--- a boundary. The word starts at the last boundary before k, and ends at the first boundary after k.
+-- The word of character k of a paragraph that starts at `start`. `ends` holds, for each character, whether a
+-- boundary follows it. The word starts at the last boundary before k, and ends at the first boundary after k.
 abbrev pub word_by : ℕ → List ℕ → List Bool → ℕ → Word
 word_by start text ends k = record {
   start = start + cluster_begin ends k;

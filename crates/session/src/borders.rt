@@ -107,7 +107,8 @@ pub fn last_touched<'a, S: ParagraphStore<Kept>>(
     ensures kept { option_map (λ kept. kept.now) result.kept
         ≡ slice_get (S.items store.now) (result.end.index - 1) }
 {
-    // Fast path: no search if the edit ends in the first paragraph that it touches, or in the next one.
+    // Fast path: if the edit ends in the first paragraph that it touches or in the next one, no search is
+    // needed.
     let Some(kept) = first else {
         return find_last_touched(store, to);
     };
@@ -136,7 +137,7 @@ pub fn front<T: Copy>(items: &[T], to: usize) -> &[T]
     &items[..to.min(items.len())]
 }
 
-/// Returns the items at and after an index.
+/// Returns the items from an index on, or none if the index is past the end.
 pub fn back<T: Copy>(items: &[T], from: usize) -> &[T]
     ensures { result.now ≡ drop from items.now }
 {
@@ -153,7 +154,8 @@ fn advances_of(kept: &Kept) -> &[u32]
     }
 }
 
-/// Returns the characters before `pos` in the paragraph that starts at a border, with their advances.
+/// Returns the characters before `pos` in the paragraph that starts at a border, with their advances. Without
+/// a paragraph, the part is empty.
 pub fn front_part(first: Option<&Kept>, border: Border, pos: usize) -> Part<'_>
     ensures text { (kept : List Layout)
         → option_map (λ kept. kept.now) first.entry ≡ slice_get kept border.index
@@ -178,7 +180,8 @@ pub fn front_part(first: Option<&Kept>, border: Border, pos: usize) -> Part<'_>
     }
 }
 
-/// Returns the characters at and after `from` in the paragraph that ends at a border, with their advances.
+/// Returns the characters at and after `from` in the last touched paragraph, with their advances. Without a
+/// paragraph, the part is empty.
 pub fn back_part(last: LastTouched<'_>, from: usize) -> Part<'_>
     ensures text { (kept : List Layout)
         → option_map (λ kept. kept.now) last.entry.kept ≡ slice_get kept (last.entry.end.index - 1)

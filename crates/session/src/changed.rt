@@ -14,7 +14,7 @@ use crate::kept::Kept;
 use lines::Extents;
 use store::{Measured, ParagraphStore};
 
-/// How many lines of two paragraphs match, and whether these are all lines of both.
+/// How many lines of two paragraphs match, counted from one end, and whether all lines of both do.
 #[derive(Clone, Copy, Debug)]
 pub struct Matching {
     pub count: usize,

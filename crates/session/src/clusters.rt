@@ -68,7 +68,7 @@ fn end_of(starts: &[u32], k: usize, len: usize) -> usize
     }
 }
 
-// Returns the ends of the clusters of line `k` of a paragraph, counted from the line's start.
+// Returns where the clusters in line `k` of a paragraph end, counted from the line's start.
 fn clusters_in(laid: &Laid, alloc: Global, k: usize) -> Result<Vec<usize>, AllocError>
     requires lined { IsLined laid.now }
     requires k { k < length laid.now.lines }
@@ -82,7 +82,7 @@ fn clusters_in(laid: &Laid, alloc: Global, k: usize) -> Result<Vec<usize>, Alloc
     laid.cluster_ends_in(alloc, start, end - start)
 }
 
-/// Returns the ends of the clusters of line `n`, counted from the line's start, or `None` past the last line.
+/// Returns where the clusters in line `n` end, counted from the line's start, or `None` past the last line.
 pub fn line_clusters<S: ParagraphStore<Kept>>(
     store: &S,
     alloc: Global,

@@ -96,8 +96,8 @@ fn right_edge(start: usize, unit: CaretUnit) -> Edge
     }
 }
 
-// Returns the edge at whichever end of a unit is nearer to a column of the unit, on a line that starts at the
-// position `start`. At the unit's middle, this is the right end.
+// Returns the edge at one end of a unit: the end nearer to a column of the unit, or the right end at the
+// unit's middle. The line starts at the position `start`.
 fn nearer_edge(start: usize, unit: CaretUnit, column: usize) -> Edge
     requires start { start + unit.start < 2 ^ 64 }
     requires end { start + unit.end < 2 ^ 64 }
@@ -115,7 +115,8 @@ fn nearer_edge(start: usize, unit: CaretUnit, column: usize) -> Edge
     }
 }
 
-// Returns the column of the edge on a side of character `k` of a line that starts at the position `start`.
+// Returns the column of the edge before or after character `k`, depending on `side`. The line starts at the
+// position `start`.
 fn column_on(side: Side, line: &VisualLine<'_>, start: usize, cluster: Cluster, k: usize) -> usize
     requires { k + 1 < 2 ^ 63 }
     ensures { result ≡ column_on side line.now start cluster k }
@@ -126,8 +127,8 @@ fn column_on(side: Side, line: &VisualLine<'_>, start: usize, cluster: Cluster, 
     }
 }
 
-// Returns the caret on a side of character `k` of line `n`, or at the line's end if the character is not
-// shown. The line starts at the position `start`.
+// Returns the caret before or after character `k` of line `n`, depending on `side`, or the caret at the
+// line's end if the character is not shown. The line starts at the position `start`.
 fn caret_beside(
     side: Side,
     n: usize,
@@ -149,7 +150,7 @@ fn caret_beside(
 }
 
 impl<S: ParagraphStore<Kept>> Session<S> {
-    // Returns line `n` and the position at which it starts.
+    // Returns line `n` and the position at which it starts, or `None` past the last line.
     fn line_at(&self, n: usize) -> Option<(VisualLine<'_>, usize)>
         ensures found { result ≡ line_at self.now.kept n }
         ensures within { IfSome result (λ found. n < length (lines_in self.now.kept)) }
@@ -181,7 +182,8 @@ impl<S: ParagraphStore<Kept>> Session<S> {
         }
     }
 
-    // Returns the caret on a side of the character at a position of the text.
+    // Returns the caret before or after the character at a position, depending on `side`, or `None` past the
+    // last character.
     fn caret_of(&self, side: Side, pos: usize) -> Result<Option<Caret>, AllocError>
         requires { pos < length (text_at self.now) }
         ensures { IfOk result (λ caret. caret
@@ -244,8 +246,8 @@ impl<S: ParagraphStore<Kept>> Session<S> {
         }
     }
 
-    /// Returns the edge that a caret reaches by one step on its line. Returns `None` if the caret is at the
-    /// end of the line in that direction, or if `edge_caret` returns `None`.
+    /// Returns the edge that a caret reaches by one step to the left or right on its line. Returns `None` if
+    /// the caret is at the end of the line in that direction, or if `edge_caret` returns `None`.
     ///
     /// A step moves over one caret unit: a grapheme cluster or, if the cluster's characters are in several
     /// level runs, the part in one of these runs. The returned edge is the unit's far edge.
@@ -312,8 +314,8 @@ impl<S: ParagraphStore<Kept>> Session<S> {
         }
     }
 
-    // Returns the edge at the right end of a line's shown part, or the edge before its first character if its
-    // width is 0.
+    // Returns the edge at the right end of a line's shown part or, in a line of width 0, the edge before the
+    // first character.
     fn rightmost_edge(&self, line: &VisualLine<'_>, start: usize) -> Result<Edge, AllocError>
         requires { start < 2 ^ 33 }
         ensures { IfOk result (λ edge. edge ≡ edge_by self.now.kept start None
@@ -346,7 +348,8 @@ impl<S: ParagraphStore<Kept>> Session<S> {
         }
     }
 
-    // Returns the last edge of the line from position `start` up to `end`, which shows `shown` characters.
+    // Returns the last edge, in logical order, of a line from position `start` up to `end`, of which `shown`
+    // characters are shown.
     fn last_edge(&self, start: usize, end: usize, shown: usize) -> Edge
         requires { start + shown < 2 ^ 64 }
         ensures { result ≡ last_edge (rules_of self.now.engine) (text_at self.now) start end shown }
@@ -388,8 +391,8 @@ impl<S: ParagraphStore<Kept>> Session<S> {
     }
 
     /// Returns the edge nearest to a column of line `n`: the nearer end of the caret unit that covers the
-    /// column, or the right end at the unit's middle. For a unit of one column, and for a column outside the
-    /// text, this is the edge that `edge_at` returns.
+    /// column. At the unit's middle, this is the right end. For a unit of one column, and for a column
+    /// outside the text, this is the edge that `edge_at` returns.
     ///
     /// Fails only if memory runs out, and only on a line that exists. Costs as much as `edge_caret`.
     pub fn nearest_edge(&self, n: usize, column: usize) -> Result<Option<Edge>, AllocError>
@@ -406,8 +409,8 @@ impl<S: ParagraphStore<Kept>> Session<S> {
         }
     }
 
-    /// Returns the first and the last edge of line `n` in logical order, for Home and End, or `None` past the
-    /// line that contains the end of the text.
+    /// Returns the first and the last edge of line `n` in logical order, for Home and End. Returns `None`
+    /// past the line that contains the end of the text.
     ///
     /// The first edge is before the line's first character. The last edge is before the separator that ends
     /// the line (CR LF is one separator). If there is none, the last edge of the text's last line is before

@@ -4,10 +4,11 @@ use thiserror::Error;
 /// The maximum number of characters in a text.
 pub const TEXT_LIMIT: usize = 16_777_216;
 
-// The documentation states this limit as a number, and contracts use the constant.
+// Proves that the constant, which contracts use, equals the number in the documentation.
 const _: () = prove!(TEXT_LIMIT == 16_777_216);
 
-/// An edit of a text, or a change of its width. Positions count characters (Unicode scalar values).
+/// An edit of a text, or a change of the width at which it is laid out. Positions count characters (Unicode
+/// scalar values).
 #[derive(Clone, Copy, Debug)]
 pub enum Edit<'a> {
     /// Inserts text before the character at a position, or at the end.
@@ -50,7 +51,7 @@ pub struct ChangedLines {
 /// The maximum width of a measured session, in the caller's unit.
 pub const MEASURED_WIDTH_LIMIT: u32 = 2_147_483_647;
 
-// The documentation and the contracts state this limit as a number.
+// Proves that the constant equals the number in the documentation and in the contracts.
 const _: () = prove!(MEASURED_WIDTH_LIMIT == 2_147_483_647);
 
 /// Why a call for measured text failed. The causes are listed in the order in which they are tested.

@@ -16,7 +16,7 @@ pub struct Hit {
     pub trailing: bool,
 }
 
-/// Returns the index in a line of the character at a visual position, or 0 past the last one.
+/// Returns the index, within its line, of the character at a visual position, or 0 past the last position.
 pub fn logical(line: &VisualLine<'_>, place: usize) -> usize
     ensures value { result ≡ slice_index line.now.vtol place }
     ensures fits { result < 2 ^ 32 }
@@ -45,7 +45,9 @@ fn rightmost(line: &VisualLine<'_>) -> Option<usize>
     line.covering(columns.saturating_sub(1))
 }
 
-/// Returns the character at a column of a line. `start` is the position in the text at which the line starts.
+/// Returns the character that covers a column of a line or, to the right of the line, the rightmost character
+/// of nonzero width. In a line of width 0, returns the start of the line. `start` is the position in the text
+/// at which the line starts.
 pub fn hit_in(line: &VisualLine<'_>, start: usize, column: usize) -> Hit
     requires { start < 2 ^ 33 }
     ensures { result ≡ hit_in start line.now column }

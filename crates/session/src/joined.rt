@@ -133,8 +133,8 @@ fn joined(
     Ok(text)
 }
 
-// Joins the advances of the three parts of a measured text of `len` characters. The advances of inserted
-// characters are 0.
+// Returns the advances of a measured text of `len` characters: those before the edit, a 0 for each inserted
+// character, and those after the edit.
 #[inline(never)] // so that edits of other texts do not clear its frame
 fn measured_advances(
     alloc: Global,
@@ -153,8 +153,7 @@ fn measured_advances(
     Ok(list)
 }
 
-// Joins the advances of the three parts of a text of `len` characters. If the text is not measured, returns
-// an empty list.
+// Like `measured_advances`, but returns an empty list if the text is not measured.
 fn joined_advances(
     alloc: Global,
     is_measured: bool,
@@ -290,7 +289,8 @@ fn lay_out(
     }
 }
 
-// Splits the advances of a text after those of its first `len` characters.
+// Splits the advances of a measured text after those of its first `len` characters. If the text is not
+// measured, callers do not use the result.
 fn split_advances(is_measured: bool, advances: &[u32], len: usize) -> (&[u32], &[u32])
     requires { is_measured ≡ true → len ≤ length advances.now }
     ensures front { given_if is_measured result.0.now

@@ -86,7 +86,8 @@ impl Kept {
         &self.laid
     }
 
-    // Replaces the lines with those at another width.
+    // Replaces the lines with those that have the given extents, and replaces `extents` with the extents of
+    // the old lines.
     fn reflow(&mut self, engine: &Engine, extents: &mut Extents, scratch: &mut ReflowScratch)
         requires laid { IsFresh (rules_of engine.now) self.old }
         requires extents { (width : ℕ) × (extents.old

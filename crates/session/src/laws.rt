@@ -1,4 +1,4 @@
-//! Theorems about all texts.
+//! Theorems that hold for all texts: about layouts of parts, edits of measured texts, and caret steps.
 ghost use Rattle.std.specs.Prelude.{◌≡◌, ◌++◌, ◌⊎◌, ℕ, List, length, true};
 ghost use Rattle.bidi.specs.Cuts.{paragraphs};
 ghost use Rattle.lines.specs.Layouts.{Rules, cut_by, with_advances};
@@ -16,10 +16,10 @@ ghost use Rattle.session.specs.declared.edits.Damage.{Damage};
 use bidi::paragraphs_are_pieces;
 use lines::{Laid, clusters_adjoin, lines_are_ordered, runs_adjoin, runs_have_all_columns};
 
-/// States, as a theorem, that if a text is split at a paragraph boundary, its layouts are those of the first
-/// part, followed by those of the second part. This holds for any tables, options and width. If the text is
-/// measured, each part has the advances of its characters. The printed bytes can be split in the same way.
-/// So the parts of a long text can be laid out in any order. Costs nothing at run time.
+/// States, as a theorem, that the layouts of a text that is split at a paragraph boundary are those of the
+/// first part, followed by those of the second part. This holds for any tables, options and width. If the
+/// text is measured, each part has the advances of its characters. The printed bytes can be split in the same
+/// way. So the parts of a long text can be laid out in any order. Costs nothing at run time.
 pub fn texts_are_laid_out_in_parts()
     ensures layouts { (rules : Rules) (width : ℕ) (front rest : List ℕ)
         → IsCutAt (cut_by rules) front rest
@@ -48,11 +48,11 @@ pub fn measured_edits_are_drawn_at_once()
         second.new_lines }
 {}
 
-/// States, as a theorem, that the units of each line tile its columns, and that each step leads to the
-/// nearest boundary in its direction on the same line, if there is one. So repeated steps reach every
-/// boundary in their direction. From a boundary, a step and a step back return to the same column. The edge
-/// at a column is at the last boundary up to that column. This holds at any width, under any rules
-/// with `reorder_clusters`, and under any rules that leave marks in place or give them no columns. Without
+/// States, as a theorem, that the units of each line tile the line's columns. Each step leads to the nearest
+/// boundary in its direction on the same line, if there is one. So repeated steps reach every boundary in
+/// their direction. From a boundary, a step and a step back return to the same column. The edge at a column
+/// is at the last boundary up to that column. All of this holds at any width, under any rules with
+/// `reorder_clusters`, and under any rules that leave marks in place or give them no columns. Without
 /// `reordernsm`, marks stay in place. In the tables of Unicode 15.0, all nonspacing marks except U+2D7F and
 /// U+1171E take no columns; this can be read from the tables, and is not proved. Costs nothing at run time.
 pub fn steps_lead_to_boundaries()

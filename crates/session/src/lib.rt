@@ -19,7 +19,7 @@
 //!
 //! `line` borrows a line, `print` and `print_lines` write lines, and `place` and `line_start` locate lines.
 //! `paragraph_start` and `paragraph_first_line` locate paragraphs. `text` returns part of the text, and
-//! `write_text` writes part of it. A refused edit changes nothing.
+//! `write_text` writes a part as UTF-8. A refused edit changes nothing.
 #![tactic(auto)]
 
 mod borders;

@@ -22,8 +22,8 @@ use lines::{Engine, lines_are_few};
 use std::alloc::{AllocError, Global};
 use store::{Measured, ParagraphStore};
 
-/// The advances of the paragraphs that overlap a range: those of the characters before the range in the first
-/// paragraph, the new ones, and those after the range in the last paragraph.
+/// The advances of the paragraphs that overlap a range. `front` holds those before the range in the first
+/// paragraph, `new` those of the range, and `back` those after the range in the last paragraph.
 #[derive(Clone, Copy, Debug)]
 pub struct Spliced<'a> {
     pub front: &'a [u32],
@@ -32,7 +32,7 @@ pub struct Spliced<'a> {
 }
 
 impl Spliced<'_> {
-    // Returns the advance at an index.
+    // Returns the advance at an index, counted from the start of the first paragraph.
     fn get(&self, index: usize) -> u32
         requires { index < length (spliced self.now) }
         ensures { result ≡ slice_index (spliced self.now) index }
@@ -75,7 +75,7 @@ impl Spliced<'_> {
     }
 }
 
-// Returns whether the advances of each paragraph between two borders add up to less than 2^32.
+// Returns whether the new advances of each paragraph from index `first` up to `end` add up to less than 2^32.
 fn has_room<S: ParagraphStore<Kept>>(
     store: &S,
     first: usize,
@@ -105,7 +105,7 @@ fn has_room<S: ParagraphStore<Kept>>(
     true
 }
 
-// Lays out the paragraphs between two borders with their new advances.
+// Lays out the paragraphs from index `first` up to `end` again, with their new advances.
 fn remeasure_each<S: ParagraphStore<Kept>>(
     alloc: Global,
     engine: &mut Engine,
@@ -146,7 +146,8 @@ fn remeasure_each<S: ParagraphStore<Kept>>(
     Ok(new)
 }
 
-/// Sets the advances of the characters from `pos` on, and lays out their paragraphs again.
+/// Sets the advances of the characters from `pos` on, and rewraps the paragraphs that contain these
+/// characters.
 pub fn set_advances<S: ParagraphStore<Kept>>(
     alloc: Global,
     engine: &mut Engine,

@@ -144,8 +144,8 @@ pub fn lengths(text: &[char]) -> (usize, usize)
     ensures bytes { result.0 ≡ length_in Utf8 text.now }
     ensures utf16 { result.1 ≡ length_in Utf16 text.now }
 {
-    // Fast paths: in most texts, each character is one unit, or at most two bytes. Finding the largest
-    // character is faster than computing the sums.
+    // Fast paths: in most texts, each character is one UTF-16 code unit and at most two UTF-8 bytes. Finding
+    // the largest character is faster than computing the sums.
     let largest = largest(text);
     if largest < '\u{80}' {
         return (text.len(), text.len());
@@ -223,8 +223,8 @@ pub fn offset_of<S: ParagraphStore<Kept>>(
     }
 }
 
-/// Returns the position of the character that contains a unit, and the index of the unit within it, or `None`
-/// past the end.
+/// Returns the position of the character that contains a unit, and the index of the unit within it. At the
+/// end, these are the number of characters and 0. Returns `None` past the end.
 pub fn position_of<S: ParagraphStore<Kept>>(
     store: &S,
     offset: usize,

@@ -95,7 +95,8 @@ fn append<S: ParagraphStore<Kept>>(store: &mut S, new: Vec<Kept>) -> Result<(), 
     }
 }
 
-// Appends layouts to a store if there are enough for a batch. Returns the layouts that were not appended.
+// If there are enough layouts for a batch, appends all of them to a store and returns an empty list.
+// Otherwise, returns the layouts.
 fn append_batch<S: ParagraphStore<Kept>>(
     alloc: Global,
     store: &mut S,
@@ -111,7 +112,7 @@ fn append_batch<S: ParagraphStore<Kept>>(
     Ok(Vec::new(alloc))
 }
 
-// Fills a list with the advances of a new paragraph of `len` characters: all are 0. Does nothing if the
+// Replaces the contents of a list with the advances of a new paragraph: `len` zeros. Does nothing if the
 // paragraph is not measured.
 fn zeros(list: Vec<u32>, is_measured: bool, len: usize) -> Result<Vec<u32>, AllocError>
     ensures { IfOk result (λ list. given_if is_measured list.items ≡ first_advances is_measured len) }
@@ -124,7 +125,7 @@ fn zeros(list: Vec<u32>, is_measured: bool, len: usize) -> Result<Vec<u32>, Allo
     Ok(list)
 }
 
-// Lays out a new paragraph, whose advances are 0 if it is measured. `advances` is scratch space.
+// Lays out a new paragraph. If it is measured, `advances` must hold a 0 for each of its characters.
 fn lay_out_new(
     alloc: Global,
     engine: &mut Engine,

@@ -84,7 +84,7 @@ fn lines_to(starts: &[u32], pos: usize) -> usize
     starts.partition_point(|start| *start as usize <= pos)
 }
 
-// Returns the place of the character at a position.
+// Returns the place of the character at a position, which must not be the end of the text.
 fn place_in<S: ParagraphStore<Kept>>(store: &S, pos: usize) -> Place
     requires within { pos < length (text_of (S.items store.now)) }
     requires lined { All IsLined (S.items store.now) }

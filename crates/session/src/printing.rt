@@ -57,8 +57,8 @@ fn write_part<W: Sink>(
 }
 
 /// Writes `count` lines, starting at line `first`. `before` is the number of bytes already written, and the
-/// returned byte count includes it. Stops at the first failed write. Searches the store only for the first
-/// line.
+/// returned byte count includes it. Stops at the first failed write. Searches the store only for the
+/// paragraph of the first line.
 pub fn write_lines<S: ParagraphStore<Kept>, W: Sink>(
     store: &S,
     first: usize,

@@ -13,8 +13,8 @@ use device::Sink;
 use lines::{WriteFault, write_chars};
 use store::ParagraphStore;
 
-/// Returns those of the `count` characters starting at `pos` that are in the same paragraph as the first of
-/// them. Returns `None` if the range reaches past the end.
+/// Returns the characters from `pos` to the end of their paragraph, but at most `count`. Returns `None` if
+/// `pos + count` is past the end.
 pub fn text_part<S: ParagraphStore<Kept>>(store: &S, pos: usize, count: usize) -> Option<&[char]>
     requires { All IsLined (S.items store.now) }
     ensures part { option_map (λ part. part.now) result ≡ text_part (S.items store.now) pos count }
@@ -34,7 +34,7 @@ pub fn text_part<S: ParagraphStore<Kept>>(store: &S, pos: usize, count: usize) -
     }
 }
 
-/// Returns how many bytes the `count` characters starting at `pos` have in UTF-8. Returns `None` if the range
+/// Returns the length in UTF-8 bytes of the `count` characters starting at `pos`. Returns `None` if the range
 /// reaches past the end.
 pub fn utf8_len<S: ParagraphStore<Kept>>(store: &S, pos: usize, count: usize) -> Option<usize>
     ensures { result ≡ utf8_len (S.items store.now) pos count }

@@ -32,8 +32,8 @@ fn recycle(engine: &mut Engine, old: Vec<Kept>)
     }
 }
 
-/// Replaces the paragraphs between two borders, and finds which lines change. Changes nothing if an
-/// allocation fails.
+/// Replaces the paragraphs between two borders, and stores in `changed` which lines this changed. Returns the
+/// damage. If an allocation fails, changes nothing and fails with `NoMemory`.
 pub fn put<S: ParagraphStore<Kept>>(
     engine: &mut Engine,
     store: &mut S,
@@ -83,7 +83,8 @@ pub fn put<S: ParagraphStore<Kept>>(
     Ok(damage)
 }
 
-/// Replaces the characters of a range with `piece`.
+/// Replaces the characters of a range with `piece`. Fails with the first of `OutOfRange`, `TextTooLong` and
+/// `ParagraphTooLong` that applies, or with `NoMemory` if an allocation fails.
 pub fn replace<S: ParagraphStore<Kept>>(
     alloc: Global,
     engine: &mut Engine,

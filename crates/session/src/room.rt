@@ -84,7 +84,7 @@ impl RoomScan {
     }
 }
 
-// Returns the sum of advances, if it is less than 2^32.
+// Returns the sum of advances, or `None` if it is 2^32 or more.
 fn sum_of(advances: &[u32]) -> Option<u32>
     ensures { IfSome result (λ total. total ≡ sum advances.now) }
 {

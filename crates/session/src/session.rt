@@ -1,4 +1,4 @@
-//! Sessions, which are generic over the `ParagraphStore`.
+//! Defines `Session`, which is generic over its `ParagraphStore`.
 ghost use Rattle.std.specs.Prelude.{◌≡◌, ◌+◌, ◌^◌, ◌<◌, ◌≤◌, nat_le, nat_lt, length};
 ghost use Rattle.std.specs.Prelude.{is_none, is_some, min, option_map, slice_get, slice_index, Option};
 ghost use Rattle.std.specs.Prelude.{IfOk, IfErr, IfSome, IsErrOf, OnOk, OnErr};
@@ -254,8 +254,8 @@ impl<S: ParagraphStore<Kept>> Session<S> {
         line_start(&self.store, n)
     }
 
-    /// Returns the paragraph and the line of the character at a position, and its offset in the line. Returns
-    /// `None` past the end of the text.
+    /// Returns the paragraph and the line of the character at a position, and the character's offset in that
+    /// line. Returns `None` past the end of the text.
     ///
     /// The end of the text is also a position, after the last character. If the text is empty or ends with a
     /// separator, the end is where the next paragraph would start, and its `line` is `line_count`.
@@ -375,9 +375,9 @@ impl<S: ParagraphStore<Kept>> Session<S> {
         line_clusters(&self.store, self.alloc, n)
     }
 
-    /// Returns the word of the character at a position: the segment between two word boundaries (UAX #29) of
-    /// its paragraph. Returns `None` past the last character. Spaces and punctuation are segments too.
-    /// Allocates a copy of the paragraph, and needs time linear in its length.
+    /// Returns the word of the character at a position: the segment between word boundaries (UAX #29) of the
+    /// paragraph that contains the character. Returns `None` past the last character. Spaces and punctuation
+    /// are segments too. Allocates a copy of the paragraph, and needs time linear in its length.
     pub fn word(&self, pos: usize) -> Result<Option<Word>, AllocError>
         ensures ok { IfOk result (λ word. word ≡ word_at self.now.kept pos) }
         ensures memory { OnErr result (pos < length (text_at self.now)) }
@@ -411,9 +411,9 @@ impl<S: ParagraphStore<Kept>> Session<S> {
         self.alloc
     }
 
-    /// Returns those of the `count` characters starting at `pos` that are in the same paragraph as the first
-    /// of them. Returns `None` if the range reaches past the end. The returned part is empty only if `count`
-    /// is 0. To read the rest, call again with `pos + part.len()` and `count - part.len()`.
+    /// Returns the characters from `pos` to the end of their paragraph, but at most `count`. Returns `None`
+    /// if `pos + count` is past the end. The returned part is empty only if `count` is 0. To read the rest,
+    /// call again with `pos + part.len()` and `count - part.len()`.
     pub fn text(&self, pos: usize, count: usize) -> Option<&[char]>
         ensures part { option_map (λ part. part.now) result ≡ text_part self.now.kept pos count }
         ensures some { 0 < count → IfSome result (λ part. 0 < length part.now) }
@@ -425,7 +425,7 @@ impl<S: ParagraphStore<Kept>> Session<S> {
         text_part(&self.store, pos, count)
     }
 
-    /// Returns how many bytes the `count` characters starting at `pos` have in UTF-8. Returns `None` if the
+    /// Returns the length in UTF-8 bytes of the `count` characters starting at `pos`. Returns `None` if the
     /// range reaches past the end. Costs as much as two calls to `byte_of`. Allocates nothing.
     pub fn utf8_len(&self, pos: usize, count: usize) -> Option<usize>
         ensures { result ≡ utf8_len self.now.kept pos count }
@@ -565,7 +565,7 @@ impl<S: ParagraphStore<Kept>> Session<S> {
     }
 
     /// Returns the width, in columns. In a measured session, returns the width in the caller's unit, or
-    /// 65,535 if it is greater. Use `measured_width` there.
+    /// 65,535 if the width is greater than that. Use `measured_width` there.
     pub fn width(&self) -> u16
         ensures width { result ≡ min self.now.width 65535 }
         ensures laid_out { IsWholeLayout self.now }
@@ -655,7 +655,7 @@ impl<S: ParagraphStore<Kept>> Session<S> {
         self.replace(pos, count, "")
     }
 
-    /// Replaces `count` characters, starting at `pos`, with a text. Counts as one edit, and returns one
+    /// Replaces `count` characters, starting at `pos`, with a text. This is a single edit, with a single
     /// damage.
     pub fn replace(&mut self, pos: usize, count: usize, piece: &str) -> Result<Damage, EditFault>
         ensures ok { IfOk result (Edits (replacing pos count (chars piece.now)) self.old self.new) }
@@ -736,10 +736,11 @@ impl<S: ParagraphStore<Kept>> Session<S> {
         }
     }
 
-    /// Sets the advances of the characters from `pos` on, in the unit of the width, and rewraps their
-    /// paragraphs. Nothing is analysed again. The damage names these paragraphs, or none if `advances` is
-    /// empty. Fails with `NotMeasured`, with `OutOfRange` if the range reaches past the end, or with
-    /// `ParagraphTooLong` if the advances of a paragraph would add up to more than 4,294,967,295.
+    /// Sets the advances of the characters from `pos` on, in the unit of the width, and rewraps the
+    /// paragraphs that contain these characters, without analysing them again. The damage names these
+    /// paragraphs, or none if `advances` is empty. Fails with `NotMeasured`, with `OutOfRange` if the range
+    /// reaches past the end, or with `ParagraphTooLong` if the advances of a paragraph would add up to more
+    /// than 4,294,967,295.
     pub fn set_advances(&mut self, pos: usize, advances: &[u32]) -> Result<Damage, AdvanceFault>
         ensures ok { IfOk result (SetsAdvances pos advances.now self.old self.new) }
         ensures err { IfErr result (SetsAdvancesNot pos advances.now self.old self.new) }

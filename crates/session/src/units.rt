@@ -143,7 +143,8 @@ fn after_rightmost(line: &VisualLine<'_>, first: usize, end: usize) -> usize
     0
 }
 
-// Returns the column of the leading end of the unit of the characters from `first` up to `end`.
+// Returns the column of a unit's leading end. The unit has the given level, and consists of the characters
+// from `first` up to `end`.
 fn leading_of(line: &VisualLine<'_>, level: u8, first: usize, end: usize) -> usize
     ensures column { result ≡ leading_of line.now level first end }
     ensures fits { result < 2 ^ 63 }
@@ -199,7 +200,8 @@ fn holder(line: &VisualLine<'_>, start: usize, cluster: Cluster, k: usize) -> Op
 }
 
 /// Returns the column of the edge before character `k`, on a line that starts at the position `start`. If a
-/// unit begins with the character, this is the unit's leading end. `cluster` is the character's cluster.
+/// unit begins with the character, this is the unit's leading end, and otherwise the character's leading
+/// edge. `cluster` is the character's cluster.
 pub fn column_before(line: &VisualLine<'_>, start: usize, cluster: Cluster, k: usize) -> usize
     requires { k + 1 < 2 ^ 63 }
     ensures { result ≡ column_before line.now start cluster k }
@@ -212,7 +214,8 @@ pub fn column_before(line: &VisualLine<'_>, start: usize, cluster: Cluster, k: u
 }
 
 /// Returns the column of the edge after character `k`, on a line that starts at the position `start`. If a
-/// unit ends with the character, this is the unit's trailing end. `cluster` is the character's cluster.
+/// unit ends with the character, this is the unit's trailing end, and otherwise the character's trailing
+/// edge. `cluster` is the character's cluster.
 pub fn column_after(line: &VisualLine<'_>, start: usize, cluster: Cluster, k: usize) -> usize
     requires { k + 1 < 2 ^ 64 }
     ensures { result ≡ column_after line.now start cluster k }

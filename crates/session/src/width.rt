@@ -79,7 +79,7 @@ fn find_each(
     Ok(parts)
 }
 
-// Returns the length of the longest paragraph.
+// Returns the length of the longest paragraph, or 0 if there are no paragraphs.
 fn longest(list: &[&Kept]) -> usize
     ensures all { All (λ kept. length kept.text ≤ result) (map (λ kept. kept.now) list.now) }
     ensures least { (n : ℕ) → All (λ kept. length kept.text ≤ n) (map (λ kept. kept.now) list.now)
@@ -96,7 +96,8 @@ fn longest(list: &[&Kept]) -> usize
     most
 }
 
-// Finds the extents of all lines that change at another width, and allocates scratch space for writing them.
+// Returns the extents of all lines that change at another width, and the scratch space for writing these
+// lines.
 fn find_all<S: ParagraphStore<Kept>>(
     alloc: Global,
     engine: &mut Engine,

@@ -28,8 +28,8 @@ fn has_letter(text: &[char]) -> bool
     text.iter().any(|c| c.is_alphanumeric())
 }
 
-// Returns the word of character `k` of a paragraph that starts at the position `start`. `ends` says after
-// which characters there is a boundary.
+// Returns the word of character `k` of a paragraph that starts at the position `start`. `ends` holds, for
+// each character, whether a boundary follows it.
 fn word_by(start: usize, text: &[char], ends: &[bool], k: usize) -> Word
     requires within { k < length ends.now }
     requires ends { length ends.now ≡ length text.now }

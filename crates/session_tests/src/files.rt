@@ -31,7 +31,7 @@ fn is_refused(tables: &Result<Tables, TableFault>) -> bool {
     }
 }
 
-/// Makes an engine with the given files and options.
+/// Makes an engine with tables read from the given files, and with the given options.
 pub fn engine(alloc: Global, files: &UcdFiles<'_>, options: Options) -> Result<Engine, TableFault> {
     Ok(Engine::new(read(alloc, files)?, options))
 }

@@ -29,7 +29,7 @@ fn engine(alloc: Global, nobreak: bool) -> Result<Engine, TableFault> {
     files::engine(alloc, &FILES, options)
 }
 
-// Lays out a text that is one paragraph, at a width that is not 0.
+// Lays out a text. Fails if the text is not one paragraph, or if the width is 0.
 fn lay_out(alloc: Global, engine: &mut Engine, text: &str, width: u16) -> Result<Laid, Fail>
     ensures laid { IfOk result (IsLaidOut (rules_of engine.new)) }
     ensures rules { SameRules engine.old engine.new }
@@ -53,7 +53,7 @@ fn lay_out_characters(
     }
     match engine.lay_out(alloc, text, u32::from(width)) {
         Ok(laid) => Ok(laid),
-        // After an allocation failure, the text is returned.
+        // After an allocation failure, the engine returns the text for another attempt.
         Err((text, _)) => match engine.lay_out(alloc, text, u32::from(width)) {
             Ok(laid) => Ok(laid),
             Err((_, error)) => Err(Fail::from(error)),
@@ -143,7 +143,8 @@ fn lay_out_letters(alloc: Global, engine: &mut Engine, len: usize) -> Result<Lai
     lay_out_characters(alloc, engine, text, 1)
 }
 
-// Returns whether these are the line starts of the longest paragraph if each character has its own line.
+// Returns whether the number of line starts and the last of them are right for a paragraph of the maximum
+// length with one character per line.
 fn has_a_line_for_each(starts: &[u32]) -> bool {
     starts.len() == PARAGRAPH_LIMIT && starts.last().copied() == Some(1_048_575)
 }
@@ -178,8 +179,8 @@ fn counts(engine: &Engine, analysed: u64, filled: u64) -> bool {
     engine.analysed() == analysed && engine.filled() == filled && engine.written() == filled
 }
 
-// Exchanges a paragraph's lines for those at another width, and back. Returns whether the lines are
-// right before and after each exchange.
+// Exchanges a paragraph's lines for those at another width, and back. Returns whether the lines are right
+// before and after each exchange, and the counters after each.
 fn exchanges(
     alloc: Global,
     engine: &mut Engine,
@@ -230,7 +231,7 @@ fn extents(alloc: Global, engine: &mut Engine, laid: &Laid, width: u32) -> Resul
     }
 }
 
-// Allocates scratch space for a number of characters.
+// Allocates scratch space for `len` characters, and tries again after an allocation failure.
 fn scratch(alloc: Global, engine: &Engine, len: usize) -> Result<ReflowScratch, Fail>
     ensures { IfOk result (λ scratch. scratch.len ≡ len) }
 {
@@ -255,7 +256,7 @@ fn reflow(alloc: Global, engine: &mut Engine, laid: &mut Laid, width: u32) -> Re
     Ok(())
 }
 
-// Returns whether the paragraph has the right lines at three widths, one after another.
+// Overwrites the paragraph's lines with those at three widths in turn, and returns whether all are right.
 fn reflows(alloc: Global, engine: &mut Engine, laid: &mut Laid) -> Result<bool, Fail>
     requires laid { IsLaidOut (with_advances (rules_of engine.old) laid.old.advances) laid.old }
 {

@@ -36,7 +36,7 @@ fn session<S: ParagraphStore<Kept> + Drop>(
     Ok(without_engine(opened)?)
 }
 
-// Returns the session, or the error from opening it.
+// Returns the opened session, or drops the engine and returns the error.
 fn without_engine<S: ParagraphStore<Kept> + Drop>(
     opened: Result<Session<S>, (Engine, EditFault)>,
 ) -> Result<Session<S>, EditFault> {
@@ -71,7 +71,7 @@ fn make_surely<S: ParagraphStore<Kept>>(
     }
 }
 
-// Executes edits in order.
+// Executes edits in order, up to the first that is refused. Tries each again after an allocation failure.
 fn make_each<S: ParagraphStore<Kept>>(
     edited: &mut Session<S>,
     edits: &[Edit<'_>],
@@ -82,8 +82,8 @@ fn make_each<S: ParagraphStore<Kept>>(
     Ok(())
 }
 
-// Executes an edit, and tries again after an allocation failure. The edit may raise the counters by at most
-// these numbers.
+// Executes an edit, and asserts that it raises the counters by at most these numbers. Tries again after an
+// allocation failure.
 fn make_within<S: ParagraphStore<Kept>>(
     rt: &impl Abort,
     edited: &mut Session<S>,
@@ -174,7 +174,7 @@ const ALL: Print = Print {
     nomirror: false,
 };
 
-// A writer into a slice, which counts the bytes written.
+// A writer that fills a slice, and counts the bytes written.
 #[derive(Drop)]
 struct Taker<'a> {
     room: &'a mut [u8],
@@ -223,7 +223,7 @@ fn print<'a, S: ParagraphStore<Kept>>(
     }
 }
 
-// Returns whether the sessions print the same output, each into one half of the buffer.
+// Prints each session into one half of the buffer. Returns whether both outputs fit and are equal.
 fn same_page<S: ParagraphStore<Kept>, T: ParagraphStore<Kept>>(
     left: &Session<S>,
     right: &Session<T>,
@@ -309,7 +309,7 @@ impl<S: ParagraphStore<Kept> + Drop, T: ParagraphStore<Kept> + Drop> Pair<S, T> 
         }
     }
 
-    // Returns whether the session equals one whose whole text is replaced by `text`.
+    // Replaces the whole text of the other session by `text`, and returns whether both sessions are equal.
     fn is_same(&mut self, text: &str) -> Result<bool, EditFault> {
         renew(&mut self.anew, text, self.edited.width())?;
         Ok(same(&self.edited, &self.anew, &mut self.room))
@@ -323,7 +323,7 @@ impl<S: ParagraphStore<Kept> + Drop, T: ParagraphStore<Kept> + Drop> Pair<S, T> 
         Ok(is_same)
     }
 
-    // Asserts that the session equals one whose whole text is replaced by `text`.
+    // Replaces the whole text of the other session by `text`, and asserts that both sessions are equal.
     fn check_same(&mut self, rt: &impl Abort, text: &str) -> Result<(), EditFault> {
         let is_same = self.is_same(text)?;
         assert!(rt; is_same, "{text:?}");
@@ -364,7 +364,7 @@ enum Check {
     Random(u64),
 }
 
-// No other function makes or drops a pair.
+// No other function makes or drops a pair, to keep proofs fast.
 fn check_over<S: ParagraphStore<Kept> + Drop, T: ParagraphStore<Kept> + Drop>(
     rt: &impl Abort,
     alloc: Global,
@@ -376,7 +376,7 @@ fn check_over<S: ParagraphStore<Kept> + Drop, T: ParagraphStore<Kept> + Drop>(
     result
 }
 
-// Checks a session over a tree.
+// Runs a kind of check on an edited session over a tree and another session over a list.
 fn check_in_tree(rt: &impl Abort, alloc: Global, what: Check) -> Result<(), Fail> {
     check_over::<TreeStore<Kept>, VecStore<Kept>>(rt, alloc, what)
 }

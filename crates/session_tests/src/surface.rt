@@ -21,7 +21,8 @@ fn of_engine<F: FnOnce(&mut lines::Engine) -> bool>(alloc: Global, check: F) -> 
     is_right
 }
 
-// Lays out a paragraph of an allowed length, or returns `None` after an allocation failure.
+// Lays out a text. Returns `None` if the text is not one paragraph of an allowed length, and after an
+// allocation failure.
 fn lay_out(alloc: Global, engine: &mut lines::Engine, text: &str, width: u32) -> Option<lines::Laid>
     requires { 0 < width }
     ensures laid { IfSome result (IsLaidOut (rules_of engine.new)) }
@@ -446,7 +447,7 @@ fn holds(alloc: Global, call: Call) -> bool {
     }
 }
 
-// Opens a session. If it is refused, returns the engine and the reason.
+// Opens a session, or returns the engine and the error. There is no engine if its tables cannot be read.
 fn open(
     alloc: Global,
     text: &str,

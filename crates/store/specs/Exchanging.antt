@@ -1,4 +1,4 @@
--- Exchanges of parts: item i is paired with part i. The costs of all exchanges are added up.
+-- Exchanges of parts of items, in which item i is paired with part i, and the total cost of these exchanges.
 use Rattle.std.specs.Prelude.{ℕ, ◌+◌, ◌-◌, ◌^◌, List, map, max, min, sum_by}
 use Rattle.std.specs.List.{zip}
 

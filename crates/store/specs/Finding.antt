@@ -43,8 +43,8 @@ found_at place = record {
   visits = place.visits;
 }
 
--- whether the place is that of number n in a unit, and `place.before` holds the sums of the items before the
--- found one
+-- whether the place is that of the character, line, byte or code unit with number n, and `place.before` holds
+-- the sums of the items before the found one
 pub record IsPlace {P : Type 0} (G : Ghosts P) (unit : Counted) (items : List P) (n : ℕ) (place : Place) : Type 0 where
   pub finds : Finds (measure G unit) G.chars G.lines items n (found_at place)
   pub sums : AreSums G finds.before place.before

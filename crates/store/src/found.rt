@@ -23,7 +23,8 @@ pub struct Found {
     pub visits: usize,
 }
 
-/// A search result while the store computes it. `before` holds the sums of the items before the found item.
+/// A search result in the form in which a store computes it. `before` holds the sums of the items before the
+/// found item.
 #[derive(Clone, Copy)]
 pub(crate) struct Place {
     pub(crate) index: usize,

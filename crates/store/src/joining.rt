@@ -1,4 +1,4 @@
-//! Joins and splits balanced trees without allocating. The work is proportional to the heights of the trees.
+//! Joins and splits balanced trees without allocating, in time proportional to the heights of the trees.
 ghost use Rattle.std.specs.Prelude.{◌≡◌, ◌+◌, ◌^◌, ◌<◌, ◌≤◌, ◌∷◌, ◌++◌};
 ghost use Rattle.std.specs.Prelude.{ℕ, length, [], take, drop, max};
 ghost use Rattle.std.specs.Prelude.{map, reverse, slice_range, MatchOption, vec_capacity, ◌-◌};
@@ -155,7 +155,7 @@ fn append<P: Measured>(left: Subtree<P>, right: Subtree<P>) -> Subtree<P>
     join(left, first, rest)
 }
 
-// Builds a tree from the nodes of a list in reverse order.
+// Builds a tree from the nodes of a list. The last node becomes the first item.
 fn build_all<P: Measured>(nodes: Vec<DetachedNode<P>>) -> Subtree<P>
     requires { Fits P.Measured (reverse nodes.items) }
     ensures { in_order result ≡ reverse nodes.items }
@@ -167,7 +167,8 @@ fn build_all<P: Measured>(nodes: Vec<DetachedNode<P>>) -> Subtree<P>
     tree
 }
 
-// Removes the last `count` nodes of a list, and builds a tree from them in reverse order.
+// Removes the last `count` nodes of a list, and builds a tree from them. The last node becomes the first
+// item.
 fn build<P: Measured>(nodes: &mut Vec<DetachedNode<P>>, count: usize) -> Subtree<P>
     requires enough { count ≤ length nodes.old.items }
     requires fits { Fits P.Measured (reverse nodes.old.items) }
@@ -184,7 +185,8 @@ fn build<P: Measured>(nodes: &mut Vec<DetachedNode<P>>, count: usize) -> Subtree
     join(left, top, right)
 }
 
-/// Replaces a range of items with the nodes of a list in reverse order. Returns a tree of the old items.
+/// Replaces a range of items with the nodes of a list, starting with the last node. Returns a tree of the old
+/// items.
 pub(crate) fn put_in<P: Measured>(
     tree: &mut Subtree<P>,
     first: usize,
@@ -205,7 +207,7 @@ pub(crate) fn put_in<P: Measured>(
     gone
 }
 
-/// Moves the items to the end of a list, which must have capacity for them, and frees the nodes.
+/// Moves the items of a tree to the end of a list, which must have capacity for them, and frees the nodes.
 pub(crate) fn move_items<P: Measured>(tree: Subtree<P>, items: &mut Vec<P>)
     requires { length items.old.items + length (in_order tree) ≤ vec_capacity items.old }
     ensures items { items.new.items ≡ items.old.items ++ in_order tree }

@@ -4,7 +4,8 @@
 //! A `ParagraphStore` holds items that are `Measured`. `replace` replaces a range of items. `find_char`,
 //! `find_line`, `find_byte` and `find_utf16` find the item that contains a character, a line, a byte or a
 //! code unit. `find_item` returns the sums of the items before an index. A `VecStore` is a list. A
-//! `TreeStore` is a balanced tree, in which the number of items that a search visits is logarithmic.
+//! `TreeStore` is a balanced tree, in which the number of items that a search visits is logarithmic in the
+//! number of all items.
 //!
 //! ```rust
 //! let paragraphs = vec![in alloc; Paragraph(5, 1), Paragraph(90, 2)]?;

@@ -2,7 +2,7 @@
 ghost use Rattle.std.specs.Prelude.{◌≡◌, ℕ, refl};
 ghost use Rattle.store.specs.Exchanging.{raised};
 
-/// An item with its numbers of characters, lines, UTF-8 bytes and UTF-16 code units.
+/// An item whose characters, lines, UTF-8 bytes and UTF-16 code units can be counted.
 pub trait Measured {
     ghost chars: { Self → ℕ };
 
@@ -58,13 +58,13 @@ pub trait Exchange: Measured {
         → Self.utf16 (exchanged item part) ≡ Self.utf16 item };
 }
 
-/// Exchanges parts of items, and may count its work.
+/// Exchanges parts of items. An implementation may count its work.
 pub trait Exchanger<P: Measured> {
     /// The type of the parts that are exchanged.
     type Part;
 
-    // The facts that determine which parts fit and what an exchange results in. These facts do not change
-    // while the exchanger counts its work.
+    // The state that determines which parts fit and what an exchange results in. An exchange does not change
+    // it.
     ghost Kind: { Type 0 };
 
     ghost kind: { Self → Kind };

@@ -1,4 +1,4 @@
-//! The interface of stores, which are lists of items with sums.
+//! The interface of stores, which are lists of items with the sums of their sizes.
 ghost use Rattle.std.specs.Prelude.{◌≡◌, ◌+◌, ◌-◌, ◌^◌, ◌<◌, ◌≤◌};
 ghost use Rattle.std.specs.Prelude.{ℕ, List, [], length, map, slice_get, slice_range, option_map, sum_by};
 ghost use Rattle.std.specs.Prelude.{IfOk, IfErr, OnOk, OnErr};
@@ -108,8 +108,9 @@ pub trait ParagraphStore<P: Measured> {
         ensures back { IfErr result (λ e. e.0.items ≡ new_items.items) }
         ensures memory { OnErr result (0 < range.end - range.start + length new_items.items) };
 
-    /// Exchanges a part of each item, in order, using an exchanger. There must be as many parts as items.
-    /// Each part must fit its item, and the new sum of lines must fit in a `usize`. Does not allocate.
+    /// Exchanges a part of each item, in order, using an exchanger. Afterwards, `parts` holds the parts that
+    /// were taken out. There must be as many parts as items. Each part must fit its item, and the new sum of
+    /// lines must fit in a `usize`. Does not allocate.
     fn exchange_all_by<E: Exchanger<P>>(&mut self, by: &mut E, parts: &mut Vec<E::Part>)
         requires fit { AllZip (E.fits (E.kind by.old)) (items self.old) parts.old.items }
         requires lines_fit { sum_by P.lines
@@ -125,9 +126,9 @@ pub trait ParagraphStore<P: Measured> {
         ensures bytes { sum_by P.bytes (items self.new) ≡ sum_by P.bytes (items self.old) }
         ensures utf16 { sum_by P.utf16 (items self.new) ≡ sum_by P.utf16 (items self.old) };
 
-    /// Exchanges a part of each item, in order: the part of item `i` for `parts[i]`. There must be as many
-    /// parts as items. Each part must fit its item, and the new sum of lines must fit in a `usize`. Does not
-    /// allocate.
+    /// Exchanges a part of each item, in order: `parts[i]` for a part of item `i`. Afterwards, `parts` holds
+    /// the parts that were taken out. There must be as many parts as items. Each part must fit its item, and
+    /// the new sum of lines must fit in a `usize`. Does not allocate.
     fn exchange_all(&mut self, parts: &mut Vec<P::Part>)
     where
         P: Exchange,

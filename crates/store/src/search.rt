@@ -54,7 +54,7 @@ impl<P: Measured> Subtree<P> {
             unreachable!()
         };
         let node: &Node<P> = node;
-        // By the trees' invariants, these calls bound the sums.
+        // By the trees' invariants, the contracts of these calls bound the sums.
         let (_height, _count, _sums) = (self.height(), self.count(), self.sums());
         let left = node.left.total(unit);
         if n < left {
@@ -94,7 +94,7 @@ impl<P: Measured> Subtree<P> {
             unreachable!()
         };
         let node: &Node<P> = node;
-        // By the trees' invariants, these calls bound the sums.
+        // By the trees' invariants, the contracts of these calls bound the sums.
         let (_height, _sums) = (self.height(), self.sums());
         let (count, before) = (node.left.count(), node.left.sums());
         if index < count {
@@ -121,7 +121,7 @@ impl<P: Measured> Subtree<P> {
         }
     }
 
-    /// Exchanges a part of each item, in order.
+    /// Exchanges a part of each item, in order: `parts[i]` for a part of item `i`.
     pub(crate) fn exchange_all<E: Exchanger<P>>(&mut self, by: &mut E, parts: &mut [E::Part])
         requires fit { AllZip (E.fits (E.kind by.old)) (in_order self.old) parts.old }
         requires lines_fit { sum_by P.lines

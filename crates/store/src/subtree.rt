@@ -155,7 +155,7 @@ impl<P: Measured> Subtree<P> {
         ensures fits { Fits P.Measured (in_order self) }
         ensures balanced { IsBalanced self }
     {
-        // By the trees' invariants, these calls bound the sums.
+        // By the trees' invariants, the contracts of these calls bound the sums.
         let (_count, _sums) = (self.count(), self.sums());
         match self.root {
             None => None,

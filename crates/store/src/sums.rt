@@ -50,7 +50,7 @@ impl Sums {
         }
     }
 
-    /// Returns the sizes of one item.
+    /// Returns the size of one item in each unit.
     pub(crate) fn of<P: Measured>(item: &P) -> Sums
         ensures { (unit : Counted) → part result unit ≡ measure P.Measured unit item.now }
     {

@@ -21,8 +21,8 @@ impl<P: Measured> Subtree<P> {
         Sums::of(item)
     }
 
-    /// Exchanges the item at an index for `item`, given the sizes of the old and the new item. Apart from the
-    /// item, only the sums on the path to it change, so the tree stays balanced.
+    /// Exchanges the item at an index for `item`. `less` and `more` are the sizes of the old and the new
+    /// item. Apart from the item, only the sums on the path to it change, so the tree stays balanced.
     pub(crate) fn swap_item(&mut self, index: usize, item: &mut P, less: Sums, more: Sums)
         requires within { index < length (in_order self.old) }
         requires less { AreSums P.Measured (slice_range (in_order self.old) index (index + 1)) less }

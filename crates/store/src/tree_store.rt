@@ -23,7 +23,8 @@ use std::ops::Range;
 use std::{fmt, mem};
 
 /// A store that is a balanced tree: the heights of the two subtrees of a node differ by at most 1. A search
-/// costs time proportional to the height. `replace` also costs time for each item that it inserts or removes.
+/// costs time proportional to the height. So does `replace`, which also costs time for each item that it
+/// inserts or removes.
 pub struct TreeStore<P: Measured> {
     root: Subtree<P>,
     alloc: Global,
@@ -60,14 +61,15 @@ impl<P: Measured> TreeStore<P> {
         ensures items { fewest_nodes (height self.now) ≤ length (in_order self.now) }
         ensures height { 2 ^ (height self.now / 2) ≤ length (in_order self.now) + 1 }
 
-        // The bound is tight: for each height, there is a balanced tree with exactly this many items.
+        // The bound is tight: for each height `h`, some balanced tree has exactly `fewest_nodes h` items.
         ensures fewest { P → (h : ℕ) → (t : Tree P) × IsBalanced t × (height t ≡ h)
             × (length (in_order t) ≡ fewest_nodes h) }
     {
         let _height = self.root.height();
     }
 
-    // Visits the nodes from the root to the item found.
+    // Finds the item that contains the character, line, byte or code unit with number `n`. Visits the nodes
+    // from the root to this item.
     fn find(&self, unit: Unit, n: usize) -> Found
         requires { n < sum_by (measure P.Measured unit) (in_order self.now) }
         ensures found { Finds (measure P.Measured unit) P.chars P.lines (in_order self.now) n result }
@@ -134,8 +136,8 @@ impl<P: Measured> TreeStore<P> {
             & (sums.utf16 <= usize::MAX - more.utf16)
     }
 
-    // Moves the only item of a list into an empty store. Allocates only the item's node. If that fails, the
-    // returned list contains the item.
+    // Moves the only item of a list into an empty store, and returns the empty list. Allocates only the
+    // item's node. If that fails, returns the list with the item in it.
     fn put_only(&mut self, items: Vec<P>) -> Result<Vec<P>, (Vec<P>, AllocError)>
         requires empty { self.old ≡ Empty }
         requires one { length items.items ≡ 1 }
@@ -193,8 +195,9 @@ fn take_down<P: Measured>(nodes: Vec<DetachedNode<P>>, items: &mut Vec<P>)
     nodes.destroy_empty();
 }
 
-// Allocates the memory for a replacement: capacity for the old items, and a node for each new item. Fails if
-// an allocation fails, or if the total number of kept and new items overflows a `usize`.
+// Prepares a replacement: allocates capacity for the old items, and moves each new item into a new node.
+// Fails if an allocation fails, or if the number of kept and new items overflows a `usize`. If it fails,
+// `items` is unchanged.
 fn take_memory<P: Measured>(
     alloc: Global,
     kept: usize,

@@ -149,7 +149,7 @@ fn put_in<P>(
     rotate(items, first, end);
 }
 
-// Exchanges a part of each item.
+// Exchanges a part of each item: `parts[i]` for a part of `items[i]`.
 fn exchange_each<P: Measured, E: Exchanger<P>>(by: &mut E, items: &mut [P], parts: &mut [E::Part])
     requires { AllZip (E.fits (E.kind by.old)) items.old parts.old }
     ensures items { items.new ≡ pairwise (E.exchanged (E.kind by.old)) items.old parts.old }
@@ -170,7 +170,8 @@ impl<P: Measured> VecStore<P> {
         self.sums.total(unit)
     }
 
-    // Visits each item up to the one found.
+    // Finds the item that contains the character, line, byte or code unit with number `n`. Visits each item
+    // up to this one.
     fn find(&self, unit: Unit, n: usize) -> Found
         requires { n < sum_by (measure P.Measured unit) self.now }
         ensures found { Finds (measure P.Measured unit) P.chars P.lines self.now n result }

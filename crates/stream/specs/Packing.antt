@@ -13,7 +13,7 @@ kept low high = if high == 0 then (if low == 0 then 1 else 2) else (if low == 0 
 abbrev pub bytes_of : ℕ → List ℕ
 bytes_of word = (word % 256) ∷ (word / 256 % 256) ∷ (word / 65536 % 256) ∷ (word / 16777216 % 256) ∷ []
 
--- the bytes of each lane's character; the lane's bits in the two masks encode how many there are
+-- the UTF-8 bytes of the characters in the lanes; a lane's bits in the two masks encode its number of bytes
 abbrev pub packed : List ℕ → ℕ → ℕ → List ℕ
 packed [] low high = []
 packed (word ∷ words) low high = take (kept (low % 2) (high % 2)) (bytes_of word) ++ packed words (low / 2) (high / 2)

@@ -313,7 +313,7 @@ pub fn pack_ascii(codes: u32x4, buffer: &mut [u8], at: usize) -> usize
     pack(codes, 0, 0, buffer, at)
 }
 
-/// Does the same as `pack_ascii` for characters that have one or two bytes.
+/// Like `pack_ascii`, but for characters of one or two bytes.
 #[inline(always)]
 pub fn pack_short(codes: u32x4, buffer: &mut [u8], at: usize) -> usize
     requires short { list_all fits_two_bytes codes ≡ true }
@@ -327,7 +327,7 @@ pub fn pack_short(codes: u32x4, buffer: &mut [u8], at: usize) -> usize
     pack(words, long.to_bitmask() as usize, 0, buffer, at)
 }
 
-/// Does the same as `pack_ascii` for all characters.
+/// Like `pack_ascii`, but for characters of any length.
 #[inline(always)]
 pub fn pack_any(codes: u32x4, buffer: &mut [u8], at: usize) -> usize
     requires bounded { list_all is_code codes ≡ true }

@@ -63,8 +63,8 @@ fn append(bytes: &[u8], room: &mut usize, list: &mut Vec<u8>) -> Result<(), Allo
     list.extend_from_slice(bytes)
 }
 
-// Prepares a list for its first `len` bytes: reserves `room` bytes if `len` is less, and sets `room` to 0.
-// Does nothing if `len` is 0.
+// Prepares a list for its first `len` bytes: reserves `room` bytes if `len` is less than `room`, and then
+// sets `room` to 0. Does nothing if `len` is 0.
 #[inline(never)] // so that later bytes are appended by short code
 fn reserve_first(len: usize, room: &mut usize, list: &mut Vec<u8>) -> Result<(), AllocError>
     ensures items { list.new.items ≡ list.old.items }

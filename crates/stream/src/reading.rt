@@ -10,7 +10,8 @@ use std::io::ErrorKind;
 /// The size of a chunk in bytes: the maximum number of bytes requested from a source at a time.
 pub const CHUNK: usize = 65_536;
 
-// Checks the number that the documentation states, since contracts refer to the constant.
+// Contracts refer to the constant by name, so this checks that it has the value that the documentation
+// states.
 const _: () = prove!(CHUNK == 65_536);
 
 /// Allocates a buffer of `len` zeros.
@@ -21,7 +22,8 @@ pub fn zeroed(alloc: Global, len: usize) -> Result<Vec<u8>, AllocError>
     vec![in alloc; 0; len]
 }
 
-/// Reads bytes into a buffer, starting at index `place`, and returns the number of bytes read.
+/// Reads bytes into a buffer, starting at index `place`, and returns their number. Calls the source once, and
+/// returns its error if it fails.
 pub fn read_to<R: Source>(
     reader: &mut R,
     buffer: &mut [u8],

@@ -91,7 +91,7 @@ fn short_len(text: &str) -> usize
     }
 }
 
-// Adds the first characters of a text, as long as all have one byte, all have two bytes, or all have more.
+// Adds the longest prefix of a text whose characters all have one byte, all have two bytes, or all have more.
 // Returns the rest of the text.
 #[inline(always)]
 fn push_some<'a>(text: &'a str, characters: &mut Vec<char>) -> &'a str
@@ -112,8 +112,8 @@ fn push_some<'a>(text: &'a str, characters: &mut Vec<char>) -> &'a str
     push_row(text, 0, 0x80, characters)
 }
 
-// Adds the first character of a text, and the following characters as long as their first byte is in a range.
-// A separate loop for each length in bytes has fewer steps, and the end of the loop is predicted better.
+// Adds the first character of a text, and the following ones as long as their first byte is in `low..high`. A
+// separate loop for each length in bytes has fewer steps, and the end of the loop is predicted better.
 #[inline(always)]
 fn push_row<'a>(text: &'a str, low: u8, high: u8, characters: &mut Vec<char>) -> &'a str
     requires some { 0 < length text.now }

@@ -8,8 +8,8 @@ use tables::in_folder_as;
 use ucd::{BidiClass, LineDetail, Tables, Version};
 
 /// Prints the properties of characters, from the table files of the given version in a folder. Each line has
-/// one property of a character: a bidi class other than L, the other bracket of its pair and whether the
-/// character opens the pair, a mirror, or the line breaking class and the detail of a character that has one.
+/// one property of a character: its bidi class if that is not L, the other bracket of its pair and whether it
+/// opens the pair, its mirror, or, if it has a detail, its line breaking class and the detail.
 pub fn print_properties(rt: &HostRuntime, version: Version, folder: &str) -> Result<()> {
     let tables = in_folder_as(rt, version, folder)?;
     write_buffered(rt, &tables)

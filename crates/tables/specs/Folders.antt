@@ -33,12 +33,12 @@ IsUnusableAs version bytes (Image why) = IsFirstFault bytes why ⊎ ((why ≡ im
 IsUnusableAs version bytes Memory = MayAllocate bytes
 IsUnusableAs version bytes other = ⊥
 
--- the first fault of the files of a version
+-- the first fault of the files, parsed as those of the given version
 abbrev pub IsFaultFor : Version → UcdFiles → FolderFault → Type 0
 IsFaultFor version files (Table fault) = IsFaultAs version files fault
 IsFaultFor version files other = ⊥
 
--- a folder, given the bytes of its files, and which files cannot be read
+-- a folder in which each file has certain bytes, or cannot be read
 module _ (has_file : ℕ → List ℕ → Type 0) (cannot_read : ℕ → Type 0) where
   -- the contents of the seven files
   pub record AreFiles (files : UcdFiles) : Type 0 where
@@ -63,7 +63,7 @@ module _ (has_file : ℕ → List ℕ → Type 0) (cannot_read : ℕ → Type 0)
     pub first : (k : ℕ) → k < index → (bytes : List ℕ) × has_file k bytes
     pub unread : IsUnread (cannot_read index) (file_name index) why
 
-  -- `why` says that a file cannot be read, or is the first fault of the files
+  -- `why` says that a file cannot be read or that memory ran out, or is the first fault of the files
   abbrev pub IsFileFaultAs : Version → FolderFault → Type 0
   IsFileFaultAs version why = ((index : ℕ) × IsFirstUnread why index) ⊎ ((files : UcdFiles) × AreFiles files × IsFaultFor version files why)
 
@@ -80,8 +80,8 @@ module _ (has_file : ℕ → List ℕ → Type 0) (cannot_read : ℕ → Type 0)
     abbrev pub AreInstalled : Tables → Type 0
     AreInstalled = AreInstalledAs V15_0
 
-    -- `why` says that the image cannot be read, or is the first fault of the image; or there is no image, and
-    -- `why` is the first fault of the files
+    -- If there is an image, `why` says that it cannot be read or that memory ran out, or is its first fault.
+    -- If there is none, `IsFileFaultAs` holds.
     abbrev pub IsInstalledFaultAs : Version → FolderFault → Type 0
     IsInstalledFaultAs version why =
         IsUnread cannot_read_image image_name why ⊎ (((bytes : List ℕ) × has_image bytes × IsUnusableAs version bytes why) ⊎ (has_no_image × IsFileFaultAs version why))
@@ -89,8 +89,8 @@ module _ (has_file : ℕ → List ℕ → Type 0) (cannot_read : ℕ → Type 0)
     abbrev pub IsInstalledFault : FolderFault → Type 0
     IsInstalledFault = IsInstalledFaultAs V15_0
 
--- The contents of the file system. The contents are not specified: each file and the image may have any bytes, and
--- reading may fail.
+-- The contents of the file system are not specified: each file and the image may have any bytes, and reading
+-- may fail.
 abbrev pub any_bytes : ℕ → List ℕ → Type 0
 any_bytes index bytes = ⊤
 

@@ -14,7 +14,7 @@ pub enum FolderFault {
     /// The image is damaged, or has another format or Unicode version.
     #[error("cannot use tables.image: {0}")]
     Image(ImageFault),
-    /// Memory ran out while the files or the image were read.
+    /// Memory ran out while the files or the image were read, or while the image was decoded.
     #[error("out of memory")]
     Memory,
 }

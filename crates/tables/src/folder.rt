@@ -13,8 +13,8 @@ use ucd::file_name;
 /// The name of the compiled image in a folder of installed tables.
 pub const IMAGE_NAME: &str = "tables.image";
 
-/// A folder of tables. The contracts of the functions that read a folder say from which files the tables
-/// come.
+/// A folder of tables. The contracts of the functions that read a folder state which files the tables come
+/// from.
 pub trait TableFolder {
     // The file with this index in `FILE_NAMES` has these bytes.
     ghost has_file: { Self → ℕ → List ℕ → Type 0 };
@@ -96,8 +96,8 @@ impl TableFolder for DiskFolder<'_> {
     }
 }
 
-// Returns the size of a file plus one byte, so that the vector does not grow for the read that finds the end.
-// Not inlined, since reading the metadata needs 4 KB of stack.
+// Returns the size of a file plus 1. With this capacity, the vector need not grow for the last read, which
+// finds the end of the file. Not inlined, since reading the metadata needs 4 KB of stack.
 #[inline(never)]
 fn capacity_for(file: &File) -> io::Result<usize> {
     Ok((file.metadata()?.len() as usize).saturating_add(1))

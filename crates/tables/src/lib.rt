@@ -28,7 +28,7 @@ pub fn in_folder(rt: &HostRuntime, folder: &str) -> Result<Tables, FolderFault>
     in_folder_as(rt, Version::V15_0, folder)
 }
 
-/// Reads tables of a version from the seven files of a folder, as `from_files_as` does.
+/// Reads tables of the given version from the seven files of a folder, as `from_files_as` does.
 pub fn in_folder_as(rt: &HostRuntime, version: Version, folder: &str) -> Result<Tables, FolderFault>
     ensures ok { IfOk result (AreFromFilesAs any_bytes may_fail version) }
     ensures err { IfErr result (IsFileFaultAs any_bytes may_fail version) }
@@ -44,7 +44,7 @@ pub fn installed(rt: &HostRuntime, folder: &str) -> Result<Tables, FolderFault>
     installed_as(rt, Version::V15_0, folder)
 }
 
-/// Reads tables of a version from an installed folder, as `from_installed_as` does.
+/// Reads tables of the given version from an installed folder, as `from_installed_as` does.
 pub fn installed_as(rt: &HostRuntime, version: Version, folder: &str) -> Result<Tables, FolderFault>
     ensures ok { IfOk result (AreInstalledAs any_bytes may_fail any_image ⊤ ⊤ version) }
     ensures err { IfErr result (IsInstalledFaultAs any_bytes may_fail any_image ⊤ ⊤ version) }
@@ -52,8 +52,8 @@ pub fn installed_as(rt: &HostRuntime, version: Version, folder: &str) -> Result<
     from_installed_as(rt.alloc(), version, &DiskFolder::new(rt, folder))
 }
 
-/// Reads the tables from the seven files, and never from an image. Reads all files before it parses the
-/// first.
+/// Reads the tables from the seven files, and never from an image. Reads all files before parsing the first
+/// one.
 pub fn from_files<F: TableFolder>(alloc: Global, folder: &F) -> Result<Tables, FolderFault>
     ensures ok { IfOk result (AreFromFiles (F.has_file folder.now) (F.cannot_read folder.now)) }
     ensures err { IfErr result (IsFileFault (F.has_file folder.now) (F.cannot_read folder.now)) }
@@ -61,7 +61,7 @@ pub fn from_files<F: TableFolder>(alloc: Global, folder: &F) -> Result<Tables, F
     from_files_as(alloc, Version::V15_0, folder)
 }
 
-/// Reads tables of a version from the seven files, as `from_files` does.
+/// Reads tables of the given version from the seven files, as `from_files` does.
 pub fn from_files_as<F: TableFolder>(
     alloc: Global,
     version: Version,
@@ -103,8 +103,8 @@ pub fn from_installed<F: TableFolder>(alloc: Global, folder: &F) -> Result<Table
     from_installed_as(alloc, Version::V15_0, folder)
 }
 
-/// Reads tables of a version, as `from_installed` does. Fails with `Image(Version)` if the image is of
-/// another version.
+/// Reads tables of the given version, as `from_installed` does. Fails with `Image(Version)` if the image is
+/// of another version.
 pub fn from_installed_as<F: TableFolder>(
     alloc: Global,
     version: Version,
@@ -121,7 +121,7 @@ pub fn from_installed_as<F: TableFolder>(
     }
 }
 
-/// Decodes an image of a version. Fails with `Image(Version)` if the image is of another version.
+/// Decodes an image of the given version. Fails with `Image(Version)` if the image is of another version.
 pub fn of_image_as(alloc: Global, version: Version, bytes: &[u8]) -> Result<Tables, FolderFault>
     ensures ok { IfOk result (IsImageOf bytes.now) }
     ensures version { IfOk result (λ tables. tables.version ≡ version) }
@@ -155,7 +155,7 @@ fn image_fault(fault: ImageFault) -> FolderFault
     }
 }
 
-// Reads the tables from the contents of the files.
+// Parses the contents of the files. Fails with `Table`.
 fn of_files(alloc: Global, version: Version, files: &UcdFiles<'_>) -> Result<Tables, FolderFault>
     ensures ok { IfOk result (AreTablesAs version files.now) }
     ensures err { IfErr result (IsFaultFor version files.now) }

@@ -23,11 +23,11 @@ abbrev pub first_level : Tables → List (List ℕ) → Option ℕ
 first_level tables [] = None
 first_level tables (paragraph ∷ following) = or_else (first_strong_level (map (class_of tables) paragraph)) (first_level tables following)
 
--- the level of the first strong character among the paragraphs that a text shows
+-- the `first_level` of the paragraphs that a text shows
 unfoldable pub shown_level : Rules → List ℕ → Option ℕ
 shown_level rules text = first_level rules.tables (paragraphs (cut_by rules) (shown_text text))
 
--- whether each block, taken alone, shows no strong character
+-- whether no block, taken alone, shows a strong character
 abbrev pub are_weak : Rules → List (List ℕ) → Bool
 are_weak rules blocks = list_all (λ block. not (is_some (shown_level rules block))) blocks
 

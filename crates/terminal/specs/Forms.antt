@@ -1,4 +1,4 @@
--- The meaning of a `Form`.
+-- The width, rules and print options that a `Form` specifies.
 use Rattle.std.specs.Prelude.{ℕ, ◌-◌, ◌^◌, ◌==◌, true, false, ◌||◌, if◌then◌else◌}
 use Rattle.lines.specs.Layouts.{Rules}
 use Rattle.lines.specs.declared.options.Options.{Options}

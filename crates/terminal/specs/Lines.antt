@@ -19,7 +19,7 @@ style_on styles k = slice_index_or styles k DEFAULT
 abbrev pub line_cells : Visual → ℕ → ℕ → List ℕ
 line_cells visual c k = if is_measured visual then c ∷ [] else cells visual c k
 
--- characters in visual order, each with the style at its position, given these positions in the line
+-- characters in visual order, each with its style, given the positions of these characters in the line
 abbrev pub styled_chars : Visual → List Style → List ℕ → List ℕ → List (ℕ × Style)
 styled_chars visual styles (c ∷ chars) (k ∷ vtol) = in_style (style_on styles k) (line_cells visual c k) ++ styled_chars visual styles chars vtol
 styled_chars visual styles chars vtol = []

@@ -17,7 +17,7 @@ use Rattle.terminal.specs.declared.form.Form.{Form}
 abbrev pub IsWhole : Rules → List ℕ → Type 0
 IsWhole rules text = paragraphs (cut_by rules) text ≡ text ∷ []
 
--- whether a paragraph of a text is over the limit
+-- whether any paragraph of a text is over the limit
 abbrev pub has_over : Rules → List ℕ → Bool
 has_over rules text = list_any (λ paragraph. nat_lt PARAGRAPH_LIMIT (length paragraph)) (paragraphs (cut_by rules) text)
 

@@ -21,7 +21,8 @@ use Rattle.terminal.specs.declared.form.Form.{Form}
 use Rattle.terminal.specs.declared.form.Prefix.{Prefix}
 use Rattle.terminal.specs.declared.form.Prefix.TheVariants as prefix
 
--- whether a space may follow a character of a quote, or `None` if the character is not part of the quote
+-- whether a space may follow a character of a quote, or `None` if the character is not part of the quote;
+-- `spaced` is whether this character itself may be a space
 abbrev pub quoted : Bool → ℕ → Option Bool
 quoted spaced c = if c == 0x3E then Some true else if spaced && c == 0x20 then Some false else None
 
@@ -89,13 +90,14 @@ line_prefix repeated print line styles = record {
 }
 
 module _ (rules : Rules) (form : Form) (text : List ℕ) (styles : List Style) where
-  -- the line of a prefix that consists of a paragraph's first n characters, or `None` if they are too wide
+  -- the line of a prefix that consists of a paragraph's first n characters, or `None` if they do not fit on
+  -- one line that is narrower than the width
   abbrev pub prefix_line : ℕ → Option Visual
   prefix_line n =
       narrow_line (width_of form) (visuals (prefix_layout rules (prefix_base form.prefix (base_of rules (or_one 10 (drop n text)))) (take n text)))
 
-  -- The printed bytes of a paragraph whose first n characters are a prefix with the given line, or text if
-  -- there is no line. The text after the prefix is laid out as a separate paragraph.
+  -- The printed bytes of a paragraph, given the line of its prefix, the first n characters. The text after
+  -- the prefix is laid out as a separate paragraph. If the line is `None`, the paragraph has no prefix.
   abbrev pub bytes_after : ℕ → Option Visual → List ℕ
   bytes_after n None = styled_bytes None rules (width_of form) (print_of form) text styles
   bytes_after n (Some line) =

@@ -90,7 +90,8 @@ EndsTooLong rules form bytes ended =
     (first : List ℕ) × (others : List (List ℕ)) × (blocks (cut_by rules) (input_text form.escapes bytes) ≡ ended ++ first ∷ others)
     × (are_within ended ≡ true) × (PARAGRAPH_LIMIT < length first)
 
--- What was written, for each fault. If the form is strict, the input counts only up to the first invalid UTF-8.
+-- What was written, for each fault. If the form is strict, only the input before the first invalid UTF-8
+-- counts.
 abbrev pub EndsBy : (rules : Rules) (form : Form) (is_last : Bool) → Device → Device → (writer_old writer_new : Device) → (bytes : List ℕ)
     → WritesFirst rules form bytes writer_old writer_new → Fault → Type 0
 EndsBy rules form is_last reader_old reader_new writer_old writer_new bytes first fault.Read =

@@ -26,7 +26,7 @@ use Rattle.terminal.specs.declared.input.Held.{Held}
 abbrev pub pages : Rules → Form → Pen → List (List ℕ) → List ℕ
 pages rules form pen parts = flat_map (block_page rules form) (shown_blocks pen parts)
 
--- the pen after some blocks
+-- the pen with which the block after some blocks begins
 abbrev pub pen_after_blocks : Pen → List (List ℕ) → Pen
 pen_after_blocks pen [] = pen
 pen_after_blocks pen (block ∷ parts) = pen_after_blocks (next_paragraph (pen_at_end pen block)) parts
@@ -48,7 +48,7 @@ pub record Adds (rules : Rules) (form : Form) (parts : List (List ℕ)) (old new
 abbrev pub is_left_long : ℕ → ℕ → Bool
 is_left_long scanned len = nat_lt PARAGRAPH_LIMIT len && (nat_le PARAGRAPH_LIMIT scanned || nat_lt (2 * PARAGRAPH_LIMIT) len)
 
--- the rest of a text: if it is not too long, no end of a block is known before `scanned`
+-- the rest of a text: either it is too long, or `IsLeft` holds for it
 abbrev pub Leaves : Rules → Bool → Bool → ℕ → List ℕ → Type 0
 Leaves rules holds true scanned rest = (holds ≡ true) × IsTooLong (cut_by rules) rest
 Leaves rules holds false scanned rest = IsLeft (cut_by rules) holds scanned rest

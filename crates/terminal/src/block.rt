@@ -87,7 +87,7 @@ fn paragraph_end(engine: &Engine, characters: &[char], at: usize) -> usize
     }
 }
 
-// Returns whether a paragraph of a text is over the limit.
+// Returns whether any paragraph of a text is over the limit.
 fn has_over(engine: &Engine, characters: &[char]) -> bool
     ensures { result ≡ has_over (rules_of engine.now) characters.now }
 {
@@ -137,7 +137,7 @@ fn push_parts(
     Ok(())
 }
 
-// Adds the lines of what a block shows.
+// Adds the lines of a block, given the text that it shows.
 fn push_shown(
     alloc: Global,
     page: &mut Page,
@@ -167,8 +167,8 @@ pub(crate) struct Shown {
     pub(crate) over: bool,
 }
 
-/// Adds the lines of what a block shows. The scanner is then ready for the next block. After a failed
-/// allocation, the state of the scanner is unspecified.
+/// Scans a block, and adds the lines of what it shows. Prepares the scanner for the next block. After a
+/// failed allocation, the state of the scanner is unspecified.
 pub(crate) fn push_block(
     alloc: Global,
     page: &mut Page,

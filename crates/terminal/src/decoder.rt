@@ -15,12 +15,12 @@ use std::alloc::{AllocError, Global};
 use std::io::ErrorKind;
 use stream::{CHUNK, read_to, zeroed};
 
-/// Reads and decodes chunks.
+/// Reads a source in chunks, and decodes them.
 pub(crate) struct Decoder {
     // The chunk read last. The first `waiting` bytes of the chunk are the beginning of a character.
     chunk: Vec<u8>,
     waiting: usize,
-    // The number of bytes before the waiting bytes.
+    // The number of bytes of the input that were decoded: all those before the waiting bytes.
     pub(crate) decoded: u64,
     // Whether a character has been decoded. The first character is dropped if it is U+FEFF.
     started: bool,
@@ -38,7 +38,7 @@ impl Drop for Decoder {
 }
 
 impl Decoder {
-    /// Makes a decoder at the start of an input. Allocates a chunk.
+    /// Creates a decoder for the start of an input. Allocates a chunk.
     pub(crate) fn new(alloc: Global) -> Result<Decoder, AllocError>
         ensures room { IfOk result (λ decoder. vec_len decoder.chunk ≡ CHUNK) }
         ensures waiting { IfOk result (λ decoder. decoder.waiting ≡ 0) }
@@ -53,7 +53,8 @@ impl Decoder {
         })
     }
 
-    /// Reads bytes into the chunk, after the waiting bytes, and returns the number of bytes read.
+    /// Reads bytes into the chunk, after the waiting bytes. Returns the number of bytes read, or the error of
+    /// the source.
     pub(crate) fn read<R: Source>(&mut self, reader: &mut R) -> Result<usize, ErrorKind>
         requires { self.old.waiting < vec_len self.old.chunk }
         ensures ok { IfOk result (λ n.
@@ -64,7 +65,7 @@ impl Decoder {
         read_to(reader, &mut self.chunk, self.waiting)
     }
 
-    /// Adds the `len` bytes that were read last to a list.
+    /// Adds to a list the `len` bytes that were read last.
     pub(crate) fn push_read(&self, len: usize, bytes: &mut Vec<u8>) -> Result<(), AllocError>
         requires { self.now.waiting + len ≤ vec_len self.now.chunk }
         ensures { OnOk result (bytes.new.items ≡ bytes.old.items
@@ -132,8 +133,8 @@ impl Decoder {
     }
 }
 
-// Returns the end of the bytes that are not dropped, given the number of decoded bytes and the total number
-// of bytes.
+// Returns how many of `filled` bytes are not dropped: only the decoded ones if decoding stopped, and
+// otherwise all.
 fn end_of(stops: bool, decoded: usize, filled: usize) -> usize
     ensures { result ≡ (if stops then decoded else filled) }
 {

@@ -22,9 +22,9 @@ fn valid_prefix(bytes: &[u8]) -> (&str, Option<usize>)
     }
 }
 
-/// Adds the characters of bytes to a list, and returns the number of decoded bytes. If `strict`, stops at the
-/// first invalid UTF-8, and also returns true. Otherwise, the other bytes are the beginning of a character.
-/// After a failed allocation, some characters may be missing.
+/// Adds the characters of bytes to a list. Returns the number of decoded bytes, and whether decoding stopped
+/// at invalid UTF-8, which happens only if `strict`. If it did not stop, any other bytes are the beginning of
+/// a character. After a failed allocation, some characters may be missing.
 pub(crate) fn decode(
     bytes: &[u8],
     strict: bool,

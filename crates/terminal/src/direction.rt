@@ -28,8 +28,8 @@ pub const FIRST_CHARACTERS: usize = 65_536;
 pub(crate) struct Searched {
     // The start of the first block that may show a strong character.
     start: usize,
-    // No block ends before this index of the rest, whatever follows the text. If the character there is a CR,
-    // `passed` is how far the text after it was scanned.
+    // No block ends before this index of the text from `start` on, whatever follows the text. If the
+    // character there is a CR, `passed` is how far the text after it was scanned.
     scanned: usize,
     passed: Passed,
 }
@@ -225,8 +225,8 @@ fn decode_start(escapes: Escapes, bytes: &[u8], text: &mut Vec<char>) -> Result<
 }
 
 /// Returns the base direction of a text. It is the direction of the first paragraph with a strong character
-/// among those that the text's first 65,536 characters show, or left-to-right if there is none. Decodes its
-/// bytes as `run` does.
+/// among those that the text's first 65,536 characters show, or left-to-right if there is none. Decodes the
+/// bytes as `run` does if the form is not strict.
 pub fn whole_direction(
     alloc: Global,
     engine: &mut Engine,

@@ -5,7 +5,7 @@
 pub enum Fault {
     /// The source failed.
     Read,
-    /// The sink failed after this call had written this number of bytes.
+    /// The sink failed after `run` had written this number of bytes.
     Write(u64),
     /// The input is invalid UTF-8 from this byte on, counted from 0.
     NotUtf8(u64),

@@ -1,4 +1,4 @@
-//! How a text is written.
+//! Options for how a text is written.
 ghost use Rattle.std.specs.Prelude.{◌≡◌, ◌<◌};
 
 use lines::Print;
@@ -9,10 +9,10 @@ use regex::Regex;
 pub enum Escapes {
     /// Control sequences become styles in the output, or are dropped.
     Keep,
-    /// The output has no styles.
+    /// Like `Keep`, but the output has no styles.
     Strip,
-    /// Sequences and overstrikes are not recognized. Controls that the other modes drop are replaced by their
-    /// pictures.
+    /// Sequences and overstrikes are shown as text. Each control that the other modes drop is replaced by its
+    /// picture, such as U+241B for ESC.
     Text,
 }
 
@@ -46,7 +46,7 @@ impl<'a> Prefix<'a> {
     }
 }
 
-/// How a text is written.
+/// The options for writing a text.
 #[derive(Clone, Copy, Debug)]
 pub struct Form<'a> {
     /// The width in columns, or 0 for no limit: then lines end at mandatory breaks only, and have no padding.
@@ -58,17 +58,17 @@ pub struct Form<'a> {
     /// Writes `LTR` or `RTL` after the first line of each paragraph.
     pub basedir: bool,
     pub escapes: Escapes,
-    /// Stops at the first invalid UTF-8, and at a paragraph over the limit. In this mode, a paragraph is
-    /// written only once something follows it.
+    /// Stops at the first invalid UTF-8, and at a paragraph over `PARAGRAPH_LIMIT`. Writes a paragraph only
+    /// once something follows it, or at the end of the text.
     pub strict: bool,
-    /// A prefix that is not narrower than the width is laid out as text.
+    /// What counts as a prefix. A prefix that is not narrower than the width is laid out as text.
     pub prefix: Prefix<'a>,
 }
 
 impl<'a> Form<'a> {
     ghost use Rattle.terminal.specs.Forms.{print_of, width_of};
 
-    /// Returns the width of lines in columns.
+    /// Returns the width of lines in columns, or `u32::MAX` if there is no limit.
     pub(crate) fn columns(&self) -> u32
         ensures width { result ≡ width_of self.now }
         ensures some { 0 < result }
@@ -80,7 +80,7 @@ impl<'a> Form<'a> {
         }
     }
 
-    /// Returns the print options.
+    /// Returns the options with which the crate `lines` prints the lines.
     pub(crate) fn print(&self) -> Print
         ensures { result ≡ print_of self.now }
     {

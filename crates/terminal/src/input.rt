@@ -71,8 +71,8 @@ impl Held {
         })
     }
 
-    // Decodes the waiting bytes and `len` more bytes, and adds the lines of the blocks that have ended to the
-    // page, up to a block that is too long. Returns why the run ends, or `None` if it continues.
+    // Decodes the waiting bytes and `len` more bytes. Adds to the page the lines of the blocks that have
+    // ended, up to a block that is too long. Returns why the run ends, or `None` if it continues.
     fn gather(
         &mut self,
         alloc: Global,
@@ -104,8 +104,8 @@ impl Held {
         Ok(fault_of(left.is_long, stops, self.decoder.decoded))
     }
 
-    // Adds the lines of the text that is left at the end of the input to the page, up to a block that is too
-    // long. Returns whether a block is too long. If no block is, the page of the last input ends in a newline
+    // Adds to the page the lines of the text that is left at the end of the input, up to a block that is too
+    // long. Returns whether a block is too long. If none is, the page of the last input ends in a newline
     // only if the text ends a line.
     fn gather_last(
         &mut self,
@@ -154,7 +154,7 @@ fn remove_front(text: &mut Vec<char>, n: usize)
     text.truncate(len - n);
 }
 
-// Ends a run whose input has no more bytes.
+// Ends a run whose input has no more bytes: writes the remaining lines, or returns why the run fails.
 fn finish<W: Sink>(
     alloc: Global,
     writer: &mut W,
@@ -231,9 +231,9 @@ fn step<R: Source, W: Sink>(
 
 /// Reads a text to its end, and writes the lines of what it shows.
 ///
-/// Invalid UTF-8 is read as U+FFFD, unless the form is strict, and a U+FEFF at the start of the text is
-/// dropped. The lines of a paragraph are written as soon as its end is known, before more is read. Only the
-/// unfinished paragraph and one chunk of the input are kept in memory.
+/// A U+FEFF at the start of the text is dropped. Unless the form is strict, invalid UTF-8 is read as U+FFFD.
+/// The lines of a paragraph are written as soon as its end is known, before more is read. Only the unfinished
+/// paragraph and one chunk of the input are kept in memory.
 ///
 /// With `is_last`, the last newline is left out if the text does not end a line. A text ends a line if its
 /// last character has bidi class B, or line breaking class BK, CR, LF or NL.

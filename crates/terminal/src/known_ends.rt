@@ -10,7 +10,7 @@ use crate::ends::is_apart;
 use crate::passed::{Passed, known_next};
 use lines::Engine;
 
-/// The first end of a block.
+/// The first end of a block in a text, if it is known.
 #[derive(Clone, Copy)]
 pub(crate) enum FirstEnd {
     /// The block has this number of characters.
@@ -66,8 +66,9 @@ fn search_end(engine: &Engine, text: &[char], from: usize, passed: Passed) -> Fi
     FirstEnd::After(text.len(), Passed::nothing())
 }
 
-// Returns the index of the first character, from an index on, that a paragraph boundary follows, or of the
-// last character if there is none. No block ends before this index, whatever follows the text.
+// Returns the index of the first character at or after `from` that is followed by a paragraph boundary, or
+// the index of the last character if there is none. No block ends before this index, whatever follows the
+// text.
 fn skip_uncut(engine: &Engine, text: &[char], from: usize) -> usize
     requires within { from ≤ length text.now }
     requires none { AreNoEnds (cut_by (rules_of engine.now)) from text.now }

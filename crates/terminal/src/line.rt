@@ -62,7 +62,7 @@ fn push_spaces(count: usize, out: &mut Vec<char>) -> Result<(), AllocError>
     Ok(())
 }
 
-// Returns a character of a text, or U+0000 past its end.
+// Returns the character at an index of a text, or U+0000 past the end.
 fn char_at(text: &[char], at: usize) -> char
     ensures { result ≡ slice_index text.now at }
 {
@@ -85,7 +85,7 @@ fn spaces_at(line: &VisualLine<'_>, text: &[char], place: usize) -> usize
     }
 }
 
-// Returns the number of a line's characters in visual order.
+// Returns how many visual positions a line has.
 fn ordered_len(line: &VisualLine<'_>, print: &Print) -> usize
     ensures { result ≡ min (length (ordered_chars print.now line.now)) (length line.now.vtol) }
 {
@@ -208,7 +208,7 @@ fn push_blanks(
     Ok(0)
 }
 
-// Returns the number of spaces before a line.
+// Returns how many spaces pad a line on its left.
 fn padding(line: &VisualLine<'_>, width: u32, print: &Print) -> usize
     requires { is_measured line.now ≡ false }
     ensures { replicate result 32 ≡ padding width print.now line.now }
@@ -272,7 +272,8 @@ fn push_prefix(
     }
 }
 
-// Appends a line and its prefix. Returns the number of the last style.
+// Appends a line with its prefix, which is on the right if it is right-to-left, and otherwise on the left.
+// Returns the number of the last style.
 fn push_prefixed(
     line: &VisualLine<'_>,
     part: &Part<'_>,
@@ -298,7 +299,7 @@ fn push_prefixed(
     }
 }
 
-// Appends a line, with a prefix if there is one. Returns the number of the last style.
+// Appends a line, with the prefix of the form if there is one. Returns the number of the last style.
 fn push_all(
     line: &VisualLine<'_>,
     part: &Part<'_>,
@@ -320,7 +321,8 @@ fn push_all(
     }
 }
 
-/// Appends a line with the styles of its characters. `part` must hold the line's shown characters.
+/// Appends a line with its prefix and styles, and a newline in the default style. `part` must hold the line's
+/// shown characters.
 pub(crate) fn push_line(
     line: &VisualLine<'_>,
     part: &Part<'_>,

@@ -5,7 +5,7 @@ ghost use Rattle.lines.specs.Visual.{is_measured};
 use crate::numbers::Part;
 use lines::{Print, VisualLine};
 
-/// How the lines of a paragraph are written.
+/// The width, the print options and the prefix of a paragraph's lines.
 #[derive(Clone, Copy)]
 pub(crate) struct LineForm<'a> {
     pub(crate) width: u32,

@@ -74,7 +74,7 @@ impl<'a> Part<'a> {
     }
 }
 
-// The text that is used if nothing follows a prefix.
+// The text that is laid out after a prefix if the paragraph consists of the prefix only.
 const NEWLINE: &[char] = &['\n'];
 
 const DEFAULT_NUMBER: &[usize] = &[0];

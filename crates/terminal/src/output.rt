@@ -57,14 +57,14 @@ pub(crate) struct Left {
     pub(crate) start: usize,
     /// The number of characters at the start of the rest that end no block, whatever follows the text.
     pub(crate) scanned: usize,
-    /// If the next character is a CR, how far the text after it was scanned.
+    /// If the character at the index `scanned` of the rest is a CR, how far the text after it was scanned.
     pub(crate) passed: Passed,
     /// Whether the first block of the rest is too long. In that case, `scanned` does not matter.
     pub(crate) is_long: bool,
 }
 
 impl Output {
-    /// Makes an output for the start of an input. Allocates nothing.
+    /// Creates an output for the start of an input. Allocates nothing.
     pub(crate) fn new(alloc: Global) -> Output
         ensures pen { pen_of result.scanner ≡ START }
         ensures empty { styled_of result.scanner.text ≡ [] }
@@ -110,9 +110,9 @@ impl Output {
     }
 
     /// Adds the lines of those blocks of a text that have a known end, up to a block that is too long. If the
-    /// form is strict, holds back a block that nothing follows yet. No block ends before the index `scanned`,
-    /// whatever follows the text. If the character there is a CR, the text after it was scanned as far as
-    /// `passed`.
+    /// form is strict, holds back a block that nothing follows yet. It must be known that no block ends
+    /// before the index `scanned`, whatever follows the text. If the character there is a CR, `passed` is how
+    /// far the text after it was scanned.
     pub(crate) fn push_ended(
         &mut self,
         alloc: Global,
@@ -216,7 +216,7 @@ impl Output {
         }
     }
 
-    /// Writes the lines on the page, and empties the page.
+    /// Writes the lines on the page, and empties the page. Fails with `Write` if the sink fails.
     pub(crate) fn write<W: Sink>(&mut self, writer: &mut W) -> Result<(), Fault>
         requires { self.old.written ≤ (W.state writer.old).passed }
         ensures ok { OnOk result (Wrote self.old.page.bytes.items (W.state writer.old) (W.state writer.new)) }
@@ -249,23 +249,24 @@ fn is_ended(engine: &Engine, last: Option<char>) -> bool
     }
 }
 
-// Returns whether a block of length `block` at the start of a text of length `len` is held back.
+// Returns whether a block of length `block` at the start of a text of length `len` is held back. It is if the
+// form is strict and nothing follows the block.
 fn is_held(form: &Form, block: usize, len: usize) -> bool
     ensures { result ≡ (form.now.strict && (block == len)) }
 {
     form.strict && block == len
 }
 
-// Returns whether a block of this length is too long for a form.
+// Returns whether the form is strict and a block of this length is over the limit.
 fn is_too_long(form: &Form, len: usize) -> bool
     ensures { result ≡ (form.now.strict && nat_lt PARAGRAPH_LIMIT len) }
 {
     form.strict && len > PARAGRAPH_LIMIT
 }
 
-// Returns the rest of a text. The rest begins at `start`, has `len` characters, and has no known end. If the
-// form is strict, the rest is too long in two cases: its first block is over the limit, or the rest exceeds
-// twice the limit.
+// Describes the rest of a text, which begins at `start`, has `len` characters, and contains no known end of a
+// block. If the form is strict, the rest is too long in two cases: its first block is over the limit, or the
+// rest exceeds twice the limit.
 fn left_open(form: &Form, start: usize, scanned: usize, passed: Passed, len: usize) -> Left
     ensures start { result.start ≡ start }
     ensures scanned { result.scanned ≡ scanned }

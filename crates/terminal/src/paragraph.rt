@@ -230,8 +230,8 @@ fn push_after(
     push_styled(alloc, page, engine, &lines, rest, out)
 }
 
-// Adds the lines of one paragraph. The first `len` characters of the paragraph are its prefix, if they are
-// not too wide.
+// Adds the lines of one paragraph. Treats its first `len` characters as its prefix, unless they are not
+// narrower than the width.
 fn push_split(
     alloc: Global,
     page: &mut Page,
@@ -267,7 +267,7 @@ fn push_split(
     }
 }
 
-// Adds the lines of one paragraph by the engine's rules.
+// Adds the lines of one paragraph, with its prefix if it has one, by the engine's current rules.
 fn push_formed(
     alloc: Global,
     page: &mut Page,

@@ -30,7 +30,7 @@ fn piece_end(at: usize, len: usize) -> usize
     }
 }
 
-// Adds the lines of the pieces after the first one, by the engine's rules.
+// Adds the lines of the pieces after the first one, by the engine's current rules.
 fn push_rest(
     alloc: Global,
     page: &mut Page,

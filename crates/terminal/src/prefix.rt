@@ -15,7 +15,7 @@ use regex::{Match, Regex};
 use std::alloc::{AllocError, Global};
 
 // Returns whether a space may follow a character of a quote, or `None` if the character is not part of the
-// quote.
+// quote. `spaced` is whether this character itself may be a space.
 fn quoted(spaced: bool, c: char) -> Option<bool>
     ensures { result ≡ quoted spaced c }
 {

@@ -169,9 +169,10 @@ impl Search {
     }
 }
 
-/// Reads a text until its base direction is known, as `whole_direction` defines it: until a paragraph with a
-/// strong character has ended, 65,536 characters were read, or the text ends. If the source fails first,
-/// returns the direction of the text read so far. Decodes the bytes as `run` does.
+/// Reads a text until its base direction is known, as `whole_direction` defines it. That is when a paragraph
+/// with a strong character has ended, 65,536 characters have been read, or the text has ended. If the source
+/// fails first, returns the direction of the text read so far. Decodes the bytes as `run` does if the form is
+/// not strict.
 ///
 /// Needs time in proportion to the number of bytes, however few each read returns.
 pub fn read_start<R: Source>(

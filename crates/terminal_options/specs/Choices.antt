@@ -1,4 +1,4 @@
--- The names of options' values.
+-- The values that options accept, and the choices that these values name.
 use Rattle.std.specs.Prelude.{◌&&◌, ℕ, nat_le, nat_lt, Bool, false, [], ◌∷◌, codes, Option, Some, None, option_map, if◌then◌else◌}
 use Rattle.std.specs.Char.{digit_value}
 use Rattle.std.specs.List.{list_all}

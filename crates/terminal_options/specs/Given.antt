@@ -4,7 +4,7 @@ use Rattle.clap.specs.Words.{Row, Text, first_of, matches_of}
 use Rattle.clap.specs.Takes.{is_given}
 use Rattle.terminal_options.specs.Program.{program}
 
--- the options of `HORDGULI_OPTIONS`, and the arguments
+-- the options parsed from `HORDGULI_OPTIONS`, and those parsed from the arguments
 pub record Rows : Type 0 where
   pub environment : List Row
   pub line : List Row
@@ -19,6 +19,6 @@ rows_by environment line = record {
 abbrev pub value_of : Text → Rows → Option Text
 value_of name rows = if is_some (first_of name rows.line) then first_of name rows.line else first_of name rows.environment
 
--- whether an option without a value is set
+-- whether an option without a value is set in either source
 abbrev pub is_set : Text → Rows → Bool
 is_set name rows = is_given name rows.line || is_given name rows.environment

@@ -47,6 +47,6 @@ option_rules =
 abbrev pub start : App
 start = on_top (λ s. record s { no_binary_name = true; has_version = true; args_override_self = true }) (new_app (codes "hordguli"))
 
--- the options, and the files if there may be any
+-- the options and, if `files` is true, the argument for files
 unfoldable pub program : Bool → App
 program files = fold with_rule start (option_rules ++ (if files then files_rule ∷ [] else []))

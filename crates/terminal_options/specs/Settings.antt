@@ -60,7 +60,7 @@ IsRefusal files words (fault.Words error) = IsAmong (kind_of error) (fault_of (p
 IsRefusal files words fault.NoMemory = Unit {0}
 IsRefusal files words other = ⊥
 
--- The given options include one of the strict command, one whose value has no meaning, or both options for
+-- The given options include one of the strict command, one with an invalid value, or both options for
 -- prefixes, or memory has run out.
 abbrev pub IsMeaningless : Rows → OptionFault → Type 0
 IsMeaningless rows (fault.Words error) = ⊥

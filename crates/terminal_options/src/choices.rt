@@ -1,4 +1,4 @@
-//! The values of options.
+//! Types for the values of options.
 
 /// The width of lines.
 #[derive(Clone, Copy, Debug, PartialEq, Eq)]
@@ -14,7 +14,7 @@ pub enum Width {
 /// The order of marks and other parts of a grapheme cluster in right-to-left text.
 #[derive(Clone, Copy, Debug, PartialEq, Eq)]
 pub enum Marks {
-    /// The characters of a grapheme cluster keep their order.
+    /// The characters of a grapheme cluster keep their logical order.
     Clusters,
     /// Nonspacing marks follow their base.
     After,

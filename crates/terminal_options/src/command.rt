@@ -1,4 +1,4 @@
-//! The options as they are described to `clap`.
+//! Describes the options to `clap`.
 ghost use Rattle.std.specs.Prelude.{◌≡◌, fold, map, codes, false, IfOk};
 ghost use Rattle.clap.specs.Words.{app_of, rule_of, with_rule};
 ghost use Rattle.terminal_options.specs.Program.{direction_rule, files_rule, flag_rule, flags};
@@ -20,7 +20,7 @@ pub(crate) fn command<'a>(alloc: Global, files: bool) -> Result<Command<'a>, All
     }
 }
 
-// Returns the command with all options.
+// Returns the `clap` command with all options, but without the argument for files.
 fn with_options<'a>(alloc: Global) -> Result<Command<'a>, AllocError>
     ensures { IfOk result (λ command. app_of command ≡ program false) }
 {
@@ -123,7 +123,8 @@ fn with_flags<'a>(alloc: Global, command: Command<'a>) -> Result<Command<'a>, Al
     )
 }
 
-// Adds the options of the strict command, hidden from the help, so that they can be refused by name.
+// Adds the strict command's options without a value, hidden from the help, so that they can be refused by
+// name.
 fn with_profile_flags<'a>(alloc: Global, command: Command<'a>) -> Result<Command<'a>, AllocError>
     ensures { IfOk result (λ new. app_of new
         ≡ fold with_rule (app_of command.entry) (map flag_rule profile_flags)) }
@@ -227,7 +228,7 @@ fn direction<'a>(alloc: Global) -> Arg<'a>
     .short('d')
 }
 
-// Returns an option of the strict command, hidden from the help.
+// Returns the strict command's option `--script`, hidden from the help.
 fn script<'a>(alloc: Global) -> Arg<'a>
     ensures rule { rule_of result ≡ value_rule (codes "script") }
     ensures local { result.global ≡ false }

@@ -8,21 +8,21 @@ ghost use Rattle.terminal_options.specs.Sources.{rows_in};
 use clap::ArgMatches;
 use clap::parser::ValueSource;
 
-/// The options of `HORDGULI_OPTIONS`, and the arguments.
+/// The options parsed from `HORDGULI_OPTIONS`, and those parsed from the arguments.
 #[derive(Clone, Copy)]
 pub(crate) struct Given<'m, 'a> {
     pub environment: &'m ArgMatches<'a>,
     pub line: &'m ArgMatches<'a>,
 }
 
-// Returns the value of an option in one of the two sources, or `None` if it is not set there.
+// Returns the value of an option in `matches`, one of the two sources, or `None` if it is not set there.
 pub(crate) fn value_in<'a>(matches: &ArgMatches<'a>, name: &str) -> Option<&'a str>
     ensures { option_map (λ text. text.now) result ≡ first_of name.now (rows_of (found_of matches.now)) }
 {
     matches.get_str(name)
 }
 
-// Returns whether an option is set in one of the two sources.
+// Returns whether an option is set in `matches`, one of the two sources.
 pub(crate) fn is_set_in(matches: &ArgMatches<'_>, name: &str) -> bool
     ensures { result ≡ is_given name.now (rows_of (found_of matches.now)) }
 {
@@ -30,7 +30,8 @@ pub(crate) fn is_set_in(matches: &ArgMatches<'_>, name: &str) -> bool
 }
 
 impl<'a> Given<'_, 'a> {
-    /// Returns the value of an option, or `None` if it is not set in either source.
+    /// Returns the value of an option, or `None` if it is not set in either source. The arguments override
+    /// the environment.
     pub(crate) fn value(&self, name: &str) -> Option<&'a str>
         ensures { option_map (λ text. text.now) result ≡ value_of name.now (rows_in self.now) }
     {
@@ -40,7 +41,7 @@ impl<'a> Given<'_, 'a> {
         }
     }
 
-    /// Returns whether an option without a value is set.
+    /// Returns whether an option without a value is set in either source.
     pub(crate) fn is_set(&self, name: &str) -> bool
         ensures { result ≡ is_set name.now (rows_in self.now) }
     {

@@ -18,7 +18,7 @@ use clap::ArgMatches;
 use clap::error::ErrorKind;
 use std::alloc::Global;
 
-// Parses words with `clap`.
+// Parses words with `clap`. Fails with `Words` if it refuses them.
 fn parse<'a>(
     alloc: Global,
     files: bool,
@@ -76,7 +76,7 @@ fn profile_option(given: &Given<'_, '_>) -> Option<&'static str>
     )
 }
 
-// Returns whether `--quotes` or `--prefix` is given.
+// Returns whether `--quotes` or `--prefix` is given in one of the two sources.
 fn has_prefix(matches: &ArgMatches<'_>) -> bool
     ensures { result ≡ has_prefix (rows_of (found_of matches.now)) }
 {
@@ -114,8 +114,14 @@ fn prefix_of<'a>(given: &Given<'_, 'a>) -> Option<Prefix<'a>>
 
 /// Returns the settings, given the words of `HORDGULI_OPTIONS` and the arguments after the program's name.
 ///
-/// Fails with `Words` if `clap` refuses either list of words. Otherwise, fails with `Profile` if an option of
-/// the strict command is set, and then with the fault of the first value that has no meaning.
+/// Fails with the first of these faults that applies:
+///
+/// - `Words`: `clap` refuses one of the lists of words.
+/// - `Profile`: an option of the strict command is set.
+/// - `Width`, `Tabs`, `Marks`, `Direction`, `Escapes`, `Unicode`: the option has an invalid value.
+/// - `Prefixes`: both `--quotes` and `--prefix` are set.
+///
+/// Fails with `NoMemory` if an allocation fails first.
 pub fn settings<'a>(
     alloc: Global,
     environment: &'a [&'a str],
@@ -135,7 +141,7 @@ pub fn settings<'a>(
     settings_of(alloc, &given)
 }
 
-// Returns the settings that options specify.
+// Returns the settings that parsed options specify. Fails as `settings` does, but not with `Words`.
 fn settings_of<'a>(alloc: Global, given: &Given<'_, 'a>) -> Result<Settings<'a>, OptionFault>
     ensures ok { IfOk result (AreSettings (rows_in given.now)) }
     ensures err { IfErr result (IsMeaningless (rows_in given.now)) }

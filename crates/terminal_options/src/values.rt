@@ -1,5 +1,5 @@
-//! The meaning of options' values. Each function `.._by` returns the default if there is no value, and `None`
-//! for a value that has no meaning.
+//! Converts the values of options to settings. Each function `.._by` returns the default if there is no
+//! value, and `None` if the value is invalid.
 ghost use Rattle.std.specs.Prelude.{◌≡◌, option_map};
 ghost use Rattle.terminal_options.specs.Choices.{direction_by, escapes_by, marks_by, number_up_to};
 ghost use Rattle.terminal_options.specs.Choices.{tabs_by, version_by, width_by};

@@ -169,7 +169,7 @@ fn text_without_a_width_is_neither_wrapped_nor_padded(rt: HostRuntime) -> Result
     Ok(())
 }
 
-// Returns whether a text with a pattern as its prefix is written as expected.
+// Returns whether a text is written as expected if prefixes are what a pattern matches.
 fn is_split(
     alloc: Global,
     engine: &mut Engine,

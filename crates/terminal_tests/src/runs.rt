@@ -284,8 +284,8 @@ fn push_times(byte: u8, count: usize, bytes: &mut Vec<u8>) -> Result<(), Fail> {
     Ok(())
 }
 
-// Returns whether a text is laid out in pieces without a width, and the output after `at` bytes is as
-// expected.
+// Lays out a text without a width. Returns whether it is laid out in pieces, and the output after `at` bytes
+// is as expected.
 fn ends_in_pieces(
     rt: &HostRuntime,
     bytes: &[u8],

@@ -48,7 +48,8 @@ fn is_found_after(
     Ok(start.base == base && !start.is_whole && start.bytes.len() == len)
 }
 
-// Returns whether the direction is found at the end of the text.
+// Returns whether this direction is found after the last byte, both if the reader then reports the end and if
+// it fails.
 fn is_found_at_end(
     alloc: Global,
     engine: &mut Engine,

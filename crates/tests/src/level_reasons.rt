@@ -50,7 +50,7 @@ fn are_steps(steps: &[SequenceStep]) -> bool {
         && is_digit_by_w7(digit)
 }
 
-// Returns whether there is one sequence, with these steps.
+// Returns whether there is exactly one sequence, at level 1 and with the steps that `are_steps` checks.
 fn have_steps(reasons: &ParagraphReasons) -> bool {
     let [sequence] = reasons.sequences.as_slice() else {
         return false;
@@ -166,7 +166,7 @@ fn are_brackets(steps: &[SequenceStep], expected: &[BracketStep]) -> bool {
     true
 }
 
-// Returns whether N0 takes the expected steps for the characters of the sequence with a given number.
+// Returns whether the sequence with this number exists, and N0 takes the expected steps for its characters.
 fn have_brackets(reasons: &ParagraphReasons, sequence: usize, expected: &[BracketStep]) -> bool {
     match reasons.sequences.get(sequence) {
         Some(sequence) => are_brackets(&sequence.steps, expected),

@@ -19,7 +19,7 @@ const CHARACTERS: [char; 12] = [
 
 const BASES: [Base; 4] = [Base::Rtl, Base::Ltr, Base::WeakRtl, Base::WeakLtr];
 
-// Replaces `text` with list number `number` among the lists of `len` characters.
+// Replaces `text` with `len` characters: the last digits of `number` in base 12 are their indices.
 fn put_list(text: &mut Vec<char>, len: usize, number: usize) -> Result<(), AllocError> {
     text.clear();
     let mut left = number;
@@ -41,7 +41,8 @@ pub fn properties_of(
     text.iter().map(|c| tables.properties(*c)).collect(alloc)
 }
 
-// Replaces `levels` with the levels of a list, and returns whether `base_level` returns the same base level.
+// Replaces `levels` with the levels of a list. Returns whether `base_level` and `base_level_by` return the
+// same base level as the resolver.
 fn put_levels(
     alloc: Global,
     resolver: &mut Resolver,
@@ -82,7 +83,7 @@ fn brackets_of(
 }
 
 // Replaces `levels` with the levels for classes and bracket types, and returns whether `base_level_of`
-// returns the same base level.
+// returns the same base level. Returns `false` if the two lists differ in length.
 fn put_levels_of(
     resolver: &mut Resolver,
     classes: &[BidiClass],
@@ -151,8 +152,8 @@ fn is_found_by(
     Ok(is_base && are_from(&levels, place, wanted))
 }
 
-// Returns whether a resolver finds these levels from an index on, given the characters of a list, and also
-// given their classes and bracket types.
+// Returns whether a resolver finds these levels from an index on, both from the characters of a list and from
+// their classes and bracket types.
 fn is_found(
     alloc: Global,
     resolver: &mut Resolver,
@@ -328,7 +329,7 @@ fn finds_by(
     Ok(is_base && are_digits(&levels, digits.as_bytes()))
 }
 
-// Returns whether a new resolver finds these levels of a text.
+// Returns whether `resolve` finds these levels of a text.
 fn resolves_to(
     alloc: Global,
     tables: &Tables,

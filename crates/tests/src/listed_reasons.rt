@@ -270,8 +270,8 @@ fn isolate_without_an_end_has_no_match(rt: HostRuntime) -> Result<(), Fail> {
     check_list(&rt, rt.alloc(), &text, &expected)
 }
 
-// Returns a text with 126 embeddings, of which the last overflows. Then a letter follows, and then two PDFs,
-// each followed by a letter.
+// Returns a text of 126 embedding initiators, of which the last overflows, a letter, and two PDFs, each
+// followed by a letter.
 fn deep_text(alloc: Global) -> Result<Vec<char>, AllocError> {
     let mut text = Vec::new(alloc);
     for k in 0..126 {
@@ -283,7 +283,7 @@ fn deep_text(alloc: Global) -> Result<Vec<char>, AllocError> {
     Ok(text)
 }
 
-// Returns the text, and tries again after an allocation failure.
+// Returns the text of `deep_text`, and tries again after an allocation failure.
 fn deep_text_again(alloc: Global) -> Result<Vec<char>, AllocError> {
     match deep_text(alloc) {
         Ok(text) => Ok(text),

@@ -300,8 +300,8 @@ static LETTERS: [char; 12] = [
     'a', '\u{5D0}', '\u{627}', '1', '\u{660}', '+', ',', '$', '\u{300}', '(', ')', ' ',
 ];
 
-// Returns whether the marks equal those of the reference implementation for list number `number` among the
-// lists of `length` characters from `letters`.
+// Returns whether the marks of a list of `length` letters equal those of the reference implementation. The
+// last digits of `number`, in base `letters.len()`, are the letters' indices.
 fn agrees_on(
     tables: &Tables,
     letters: &[char],

@@ -20,7 +20,7 @@ fn reasons_of(
     }
 }
 
-// Returns whether the reasons have these rules.
+// Returns whether the reasons name exactly these rules, in this order.
 fn have_rules(reasons: &[Reason], rules: &[LineRule]) -> bool {
     let mut all_right = reasons.len() == rules.len();
     for (reason, rule) in reasons.iter().zip(rules.iter()) {
@@ -29,7 +29,7 @@ fn have_rules(reasons: &[Reason], rules: &[LineRule]) -> bool {
     all_right
 }
 
-// Checks the rules of a text.
+// Asserts that these rules decide the marks of a text.
 fn check_in(
     rt: &impl Abort,
     alloc: Global,
@@ -109,7 +109,8 @@ fn percent_after_a_slash_is_lb31_without_whole_numbers(rt: HostRuntime) -> Resul
     check(&rt, rt.alloc(), "1/%", false, &rules)
 }
 
-// Returns whether a reason names this last base, this last base that is not a space, and these classes.
+// Returns whether a reason has these values for the last base, the last base that is not a space, and the
+// classes before and after the position.
 fn has_parts(
     reason: &Reason,
     base: usize,

@@ -67,7 +67,7 @@ impl Exchange for Item {
     ghost keeps_utf16 = { λ item lines fits. refl };
 }
 
-// An exchanger that adds a number to each part, which is a number of lines.
+// An exchanger that adds a number to each part. Parts are numbers of lines.
 #[derive(Drop)]
 struct Adder {
     more: usize,
@@ -105,7 +105,7 @@ impl Exchanger<Item> for Adder {
     }
 }
 
-// The limit of all sums in the tests.
+// All sums in the tests are below this limit.
 const LIMIT: usize = 1 << 40;
 
 // Returns the sums of characters and of lines. A sum above 2^64−1 becomes 2^64−1.
@@ -307,7 +307,7 @@ fn lists_its_own<S: ParagraphStore<Item>>(alloc: Global, store: &S) -> Result<bo
     Ok(is_list_of(store, &list))
 }
 
-// Returns whether there are `count` items, with consecutive names.
+// Returns whether there are `count` items, with consecutive names from `first` on.
 fn are_named(items: &[Item], first: u32, count: usize) -> bool {
     let mut all_right = items.len() == count;
     let mut name = first;
@@ -362,14 +362,15 @@ fn are_replaced(old: &[Item], other: &[Item], (start, end): (usize, usize)) -> b
     old == other && Some(old.len()) == end.checked_sub(start)
 }
 
-// Both stores, which have the same items.
+// A tree and a list with the same items.
 #[derive(Drop)]
 struct Both<S: ParagraphStore<Item>, T: ParagraphStore<Item>> {
     tree: S,
     list: T,
 }
 
-// Replaces the items of a range in both stores.
+// Replaces the items of a range in both stores. Asserts that both return the same old items, and that they
+// are equal afterwards.
 fn replace_both<S: ParagraphStore<Item>, T: ParagraphStore<Item>>(
     rt: &impl Abort,
     alloc: Global,
@@ -398,7 +399,7 @@ fn check_both<S: ParagraphStore<Item>, T: ParagraphStore<Item>>(
     Ok(())
 }
 
-// Returns a pseudorandom number below a limit.
+// Returns a pseudorandom number below a limit, or 0 if the limit is 0.
 fn below(seed: u64, limit: usize) -> usize {
     if limit == 0 {
         return 0;
@@ -586,7 +587,7 @@ fn fill<S: ParagraphStore<Item>>(
     Ok(())
 }
 
-// Asserts that a search visits few of a thousand items in the tree, and up to all of them in the list.
+// Asserts that a search visits at most 19 of a thousand items in the tree, and up to all of them in the list.
 fn check_thousand<S: ParagraphStore<Item>, T: ParagraphStore<Item>>(
     rt: &impl Abort,
     alloc: Global,
@@ -648,7 +649,7 @@ fn check_by<S: ParagraphStore<Item>, T: ParagraphStore<Item>>(
     }
 }
 
-// No other function makes or drops stores.
+// No other function makes or drops stores, since each function that does so is slow to prove.
 fn check_stores(rt: &impl Abort, alloc: Global, what: Check) -> Result<(), AllocError> {
     let mut both = Both {
         tree: TreeStore::new(alloc),

@@ -65,7 +65,7 @@ const EMPTY: ucd::UcdFiles<'_> = ucd::UcdFiles {
     emoji_data: b"",
 };
 
-// Returns the fault for which files are refused, or `None` if they are accepted.
+// Returns the fault with which files are refused, or `None` if they are accepted.
 fn fault_of(alloc: Global, files: &ucd::UcdFiles<'_>) -> Option<ucd::TableFault> {
     let tables: Result<ucd::Tables, ucd::TableFault> = ucd::Tables::read(alloc, files);
     match tables {
@@ -523,7 +523,7 @@ fn holds_in<S: store::ParagraphStore<Item> + Drop>(alloc: Global, call: Call) ->
     }
 }
 
-// Makes a store of the two items.
+// Makes a store of FIRST and SECOND, or returns `None` after an allocation failure.
 fn of_two<S: store::ParagraphStore<Item> + Drop>(alloc: Global) -> Option<S> {
     let mut store: S = S::new(alloc);
     let Ok(items) = vec![in alloc; FIRST, SECOND] else {
@@ -747,7 +747,7 @@ fn exchange_all_swaps_the_lines_of_each_item(rt: HostRuntime) {
     assert!(rt; holds(rt.alloc(), Call::ExchangeAll));
 }
 
-// Returns how many items a search for the last line visits.
+// Returns how many items a search for the last line visits, or 0 after an allocation failure.
 fn visits_in<S: store::ParagraphStore<Item> + Drop>(alloc: Global) -> usize {
     let Some(store) = of_two::<S>(alloc) else {
         return 0;

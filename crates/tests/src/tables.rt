@@ -103,7 +103,7 @@ static ROWS: [Row; 16] = [
     ('\u{10FFFF}', Bidi::L, Line::XX, None, None, NONE, 336),
 ];
 
-// Looks up the properties of a character one by one, and its number for line breaking.
+// Looks up the properties of a character, with one call for each, and its line breaking number.
 fn looked_up(tables: &Tables, c: char) -> Row {
     let pair = match tables.bracket(c) {
         Some(bracket) => Some((bracket.pair, bracket.opens)),
@@ -300,7 +300,8 @@ static SEPARATORS: [(char, Bidi); 8] = [
     ('\u{2029}', Bidi::L),
 ];
 
-// Returns whether a copy of the tables gives the characters of all rows the same properties.
+// Returns whether a copy of the tables gives the characters of all rows the same properties, and has the
+// usual separators exactly if the tables have them.
 fn copy_is_alike(tables: &Tables, copy: &Tables) -> bool {
     let mut all_right = tables.has_usual_separators() == copy.has_usual_separators();
     for row in &ROWS {
@@ -421,7 +422,7 @@ static FAULTS: [(usize, &[u8], usize, Cause); 14] = [
     (3, b"0028; 0029\n0028; 0029", 2, Cause::NamedBefore),
 ];
 
-// Returns the fault of files, or `None` if they are accepted.
+// Returns the fault with which files are refused, or `None` if they are accepted.
 fn fault_of(alloc: Global, files: &UcdFiles<'_>) -> Option<TableFault> {
     read(alloc, files).err()
 }
@@ -443,7 +444,7 @@ fn faulty_lines_are_refused_with_their_cause(rt: HostRuntime) {
     check_faults(&rt, rt.alloc(), &FAULTS);
 }
 
-// The first faulty line of the first faulty file is reported.
+// File 1 is faulty in line 2, and file 2 is faulty in line 1.
 #[test]
 fn first_faulty_line_of_the_first_faulty_file_is_reported(rt: HostRuntime) {
     let files = UcdFiles {
@@ -465,8 +466,8 @@ fn names_pictograph(alloc: Global, lines: &[u8]) -> Result<bool, TableFault> {
     Ok(tables.is_future_pictograph('\u{A9}'))
 }
 
-// Lines of another property name no characters, so they may be repeated. Lines of Extended_Pictographic must
-// not be repeated.
+// Lines of Extended_Pictographic must not name a character twice. Lines of other properties may, since they
+// are ignored.
 #[test]
 fn only_extended_pictographic_is_refused_when_repeated(rt: HostRuntime) -> Result<(), Fail> {
     let lines = b"00A9;Emoji\n00A9;Emoji\n00A9;Extended_Pictographic";

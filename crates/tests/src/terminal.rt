@@ -16,8 +16,8 @@ fn push_characters(text: &str, out: &mut Vec<char>) -> Result<(), AllocError> {
     Ok(())
 }
 
-// Returns the style of character `k`, and the index of the next run after it. `before` is the style of the
-// character before it, and `next` the index of the next run from there.
+// Returns the style of character `k`, and the index of the first run that starts after `k`. `before` is the
+// style of the preceding character, and `next` the index of the first run that starts at `k` or later.
 fn style_at<'a>(
     text: &'a StyledText,
     k: usize,
@@ -49,7 +49,7 @@ fn push_line(text: &StyledText, out: &mut Vec<char>) -> Result<(), AllocError> {
     push_between(&before, &plain, out)
 }
 
-// Returns the output for the characters and styles that a text shows.
+// Returns the output for a text: the characters that a terminal shows for it, with their styles.
 fn rewritten(alloc: Global, text: &[char]) -> Result<Vec<char>, AllocError> {
     let mut scanner = Scanner::new(alloc);
     scanner.push_text(text)?;
@@ -58,8 +58,8 @@ fn rewritten(alloc: Global, text: &[char]) -> Result<Vec<char>, AllocError> {
     Ok(out)
 }
 
-// Returns whether a text is written as expected, and whether that output, read as a text again, is written
-// unchanged.
+// Returns whether a text is written as expected, and that output is written unchanged if it is read as a text
+// again.
 fn is_written_as(alloc: Global, text: &str, expected: &str) -> Result<bool, AllocError> {
     let mut characters = Vec::new(alloc);
     push_characters(text, &mut characters)?;

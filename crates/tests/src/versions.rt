@@ -1,4 +1,4 @@
-//! Tests tables of Unicode 17.0, and how tables of 15.0 differ. The tests must also pass if any one
+//! Tests tables of Unicode 17.0, and how tables of 15.0 differ from them. The tests must also pass if any one
 //! allocation fails.
 use std::alloc::Global;
 use std::test::Fail;
@@ -7,8 +7,8 @@ use ucd::{
     Tables, UcdFiles, Version,
 };
 
-// The class and the category of U+FEFF do not combine to a detail. U+25CD has the class and the category of
-// U+25CC.
+// U+FEFF has no detail, since its category is Pi but its class is not QU. U+25CD has none either, although it
+// has the class and the category of U+25CC.
 const FILES: UcdFiles<'_> = UcdFiles {
     bidi_class: b"05D0;L",
     bidi_brackets: b"",
@@ -111,7 +111,8 @@ fn classes_of_17_are_refused_in_15(rt: HostRuntime) -> Result<(), Fail> {
     Ok(())
 }
 
-// Returns the tables of an image of these tables. Tries each step again after an allocation failure.
+// Encodes tables as an image, and returns the tables decoded from it. Tries each step again after an
+// allocation failure.
 fn through_image(alloc: Global, tables: &Tables) -> Result<Tables, ImageFault> {
     let image = match tables.to_image(alloc) {
         Ok(image) => image,

@@ -5,7 +5,8 @@ use Rattle.lines.specs.Printing.{skips_lines}
 use Rattle.lines.specs.declared.engine.Engine.{Engine}
 use Rattle.lines.specs.declared.printing.print.Print.{Print}
 
--- At most n characters were printed. If no line is printed, the counts of filled and written characters are unchanged.
+-- Each counter increased by at most n. If no line is printed, the counts of filled and written characters are
+-- unchanged.
 pub record PrintsAtMost (n : ℕ) (print : Print) (old new : Engine) : Type 0 where
   pub at_most : LaysOutAtMost n old new
   pub skipped : skips_lines print ≡ true → (filled_of new ≡ filled_of old) × (written_of new ≡ written_of old)

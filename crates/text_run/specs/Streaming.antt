@@ -118,7 +118,7 @@ abbrev pub StopsWriting : Held → RunFault → Device → Device → Type 0
 StopsWriting held fault writer_old writer_new =
     (n : ℕ) × (fault ≡ f.Write (held.written + n)) × StoppedAt n held.page.bytes.items writer_old writer_new
 
--- The sink failed after some bytes were read. Exactly the paragraphs that had ended by then were printed.
+-- The sink failed after some bytes were read. Exactly the paragraphs that had ended by then count as printed.
 pub record StopsAfter (rules : Rules) (print : Print) (held : Held) (reader_old reader_new : Device) (engine_old engine_new : Engine) : Type 0 where
   pub more : List ℕ
   pub read : HasRead reader_old reader_new more
@@ -138,8 +138,8 @@ Finishes rules width print held old new (Err f.Memory) = (held.waiting ≡ 0) ×
 Finishes rules width print held old new (Err fault) = ⊥
 
 -- What a run did between two states of its source and sink. The run decoded the bytes that it read, except
--- for the last ones, `waiting`, and wrote the lines of the paragraphs `sent`. The run still holds the lines
--- of the paragraphs `gathered`, and `text`, the characters after the last paragraph boundary.
+-- for the last ones, `waiting`. It wrote the lines of the paragraphs `sent`, and still holds those of the
+-- paragraphs `gathered`. `text` holds the characters after the last paragraph boundary.
 pub record IsAt (rules : Rules) (width : ℕ) (print : Print) (reader_old reader_new writer_old writer_new : Device) (waiting text lines : List ℕ) : Type 0 where
   pub decoded : List ℕ
   pub sent : List (List ℕ)

@@ -110,7 +110,8 @@ HasRead old new bytes = Consumes old.bytes new.bytes bytes × (new.passed ≡ ol
 
 -- A run that ended with `Memory`. No paragraph of the bytes read is too long. Unless nothing was read, the
 -- lines of at least one paragraph are still to be written. If invalid UTF-8 follows, that paragraph ends
--- before the invalid bytes. If nothing is printed, that paragraph is still to be counted.
+-- before the invalid bytes. If the options print no part of a paragraph, that paragraph has not been counted
+-- yet either.
 abbrev pub WantsMemory : Rules → ℕ → Print → Device → Device → Device → Device → Engine → Engine → Type 0
 WantsMemory rules width print reader_old reader_new writer_old writer_new engine_old engine_new =
     (bytes : List ℕ) × HasRead reader_old reader_new bytes
@@ -120,14 +121,14 @@ WantsMemory rules width print reader_old reader_new writer_old writer_new engine
     × (prints_some print ≡ false → Prints (length (concat (take k pars))) print engine_old engine_new)
     × (0 < length bytes → (if is_bad bytes then k + 1 else k) < length pars)))
 
--- at most the characters of the valid UTF-8 prefix of the bytes read were printed
+-- the number of characters that count as printed is at most that of the valid UTF-8 prefix of the bytes read
 abbrev pub PrintsNoMore : Print → Device → Device → Engine → Engine → Type 0
 PrintsNoMore print reader_old reader_new engine_old engine_new =
     (bytes : List ℕ) × HasRead reader_old reader_new bytes × PrintsAtMost (length (front_of bytes)) print engine_old engine_new
 
--- After a failed write, all paragraphs that were read were printed, except possibly the last. The last was
--- printed only if the source had no more bytes. The sink failed within the lines of the printed paragraphs,
--- after n bytes.
+-- After a failed write, all paragraphs that were read count as printed, except possibly the last. The last
+-- counts as printed only if the source had no more bytes. The sink failed within the lines of the printed
+-- paragraphs, after n bytes.
 abbrev pub HasStopped : Rules → ℕ → Print → Device → Device → Device → Device → Engine → Engine → ℕ → Type 0
 HasStopped rules width print reader_old reader_new writer_old writer_new engine_old engine_new n =
     (bytes : List ℕ) × HasRead reader_old reader_new bytes
@@ -136,8 +137,8 @@ HasStopped rules width print reader_old reader_new writer_old writer_new engine_
     × StoppedAt n (page rules width print (take k pars)) writer_old writer_new
     × Prints (length (concat (take k pars))) print engine_old engine_new)
 
--- The maximum number of bytes that a run reads after the paragraphs it has written: a paragraph of the maximum length,
--- one more character, and one chunk.
+-- The maximum number of bytes that a run reads after the paragraphs it has written: a paragraph of the
+-- maximum length and one more character, at four bytes per character, and one chunk.
 abbrev pub read_ahead : ℕ
 read_ahead = 4 * (PARAGRAPH_LIMIT + 1) + CHUNK
 

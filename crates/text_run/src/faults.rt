@@ -17,7 +17,7 @@ pub enum RunFault {
     /// A paragraph has more than 1,048,576 characters.
     #[error("paragraph too long")]
     ParagraphTooLong,
-    /// The line of a script with this number, counted from 1, is not valid.
+    /// The script line with this number, counted from 1, is not valid.
     #[error("bad script line {0}")]
     BadLine(u64),
     /// An allocation failed.

@@ -13,7 +13,7 @@ use lines::{Engine, Print};
 use std::alloc::{AllocError, Global};
 use stream::Page;
 
-/// Adds the lines of one paragraph. Allocates nothing if nothing is printed for a paragraph.
+/// Adds the lines of one paragraph to a page. Allocates nothing if the options print no part of a paragraph.
 pub fn push_paragraph(
     alloc: Global,
     page: &mut Page,
@@ -37,9 +37,9 @@ pub fn push_paragraph(
     }
 }
 
-/// Adds the base direction of one paragraph of UTF-8 text, if `print.basedir` is set. `print.skips_lines()`
-/// must be true. Decodes only the characters up to the one that decides the direction. Allocates nothing if
-/// `print.basedir` is false.
+/// Adds the base direction of one paragraph of UTF-8 text to a page, if `print.basedir` is set.
+/// `print.skips_lines()` must be true. Decodes only the characters up to the one that decides the direction.
+/// Allocates nothing if `print.basedir` is false.
 pub fn push_base_direction(
     page: &mut Page,
     engine: &mut Engine,
@@ -61,7 +61,7 @@ pub fn push_base_direction(
     }
 }
 
-/// Returns whether anything is printed for a paragraph.
+/// Returns whether the options print any part of a paragraph.
 pub fn prints_some(print: &Print) -> bool
     ensures { result ≡ prints_some print.now }
 {

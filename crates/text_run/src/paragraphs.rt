@@ -109,7 +109,7 @@ fn look_ahead(engine: &Engine, text: &[char], more: &str) -> Ahead
     Ahead::Open
 }
 
-// Returns whether there is a paragraph boundary between the last character, if there is one, and `c`.
+// Returns whether there is a paragraph boundary between `last` and `c`. Returns `false` if `last` is `None`.
 fn is_cut_after(engine: &Engine, last: Option<char>, c: char) -> bool
     ensures cut { result ≡ true
         → (a : ℕ) × (last ≡ Some a) × (cut_by (rules_of engine.now) a c ≡ true) }

@@ -165,7 +165,7 @@ impl Held {
         Ok(())
     }
 
-    // Writes the lines collected in the page.
+    // Writes the lines collected in the page, and empties the page.
     fn write<W: Sink>(&mut self, writer: &mut W) -> Result<(), RunFault>
         requires { self.old.written ≤ (W.state writer.old).passed }
         ensures ok { OnOk result (Writes self.old self.new (W.state writer.old) (W.state writer.new)) }
@@ -182,7 +182,8 @@ impl Held {
         }
     }
 
-    // Moves the bytes in `start..end`, which have not been decoded, to the front of the chunk.
+    // Moves the bytes in `start..end`, which have not been decoded, to the front of the chunk, where they
+    // wait for the next read.
     fn keep_bytes(&mut self, start: usize, end: usize)
         requires within { (start ≤ end) × (end ≤ vec_len self.old.chunk) }
         requires counted { self.old.decoded + start ≤ 2 ^ 64 - 1 }
@@ -201,8 +202,8 @@ impl Held {
     }
 }
 
-// Ends a run whose source has no more bytes. Writes the lines of the last paragraph, unless the text ends
-// inside a character.
+// Ends a run whose source has no more bytes. Writes the lines of the last paragraph or, if the text ends
+// inside a character, fails with `NotUtf8`.
 fn finish<W: Sink>(
     alloc: Global,
     writer: &mut W,
@@ -236,8 +237,8 @@ fn finish<W: Sink>(
     held.write(writer)
 }
 
-// Reads a chunk, and writes the lines of the paragraphs whose end is then known. Returns `false` if the
-// source has no more bytes.
+// Reads a chunk, and writes the lines of the paragraphs whose end is then known. If the source has no more
+// bytes, writes the lines of the last paragraph and returns `false`.
 fn step<R: Source, W: Sink>(
     alloc: Global,
     reader: &mut R,
@@ -305,8 +306,8 @@ fn step<R: Source, W: Sink>(
 
 /// Reads a text and writes the lines of its paragraphs. `width` is in columns and must not be 0.
 ///
-/// A paragraph is written as soon as its end is known, before more is read. Of the input, only the last
-/// paragraph and one chunk are kept in memory. Never fails with `BadLine` or `TextTooLong`.
+/// The lines of a paragraph are written as soon as its end is known, before more is read. Only the current
+/// paragraph and one chunk of the input are kept in memory. Never fails with `BadLine` or `TextTooLong`.
 pub fn run_text<R: Source, W: Sink>(
     alloc: Global,
     reader: &mut R,

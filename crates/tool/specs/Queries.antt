@@ -81,7 +81,7 @@ told_edge edge = codes "=" ++ edge_text edge ++ codes "\n"
 abbrev pub told_edges : Edge → Edge → List ℕ
 told_edges first last = codes "=" ++ edge_text first ++ edge_text last ++ codes "\n"
 
--- the reply to `step` at an edge from which no step leads in that direction
+-- the reply to `step` if the edge is at the end of its line in that direction
 abbrev pub told_end : List ℕ
 told_end = codes "= end\n"
 
@@ -113,7 +113,8 @@ is_odd_at line None = false
 abbrev pub leftmost : Visual → Hit → Hit
 leftmost line hit = record { pos = hit.pos; trailing = is_odd_at line (covering line 0) }
 
--- the numbers for a span: its columns, moved to the right by `left`; the numbers for a run
+-- the numbers that a reply lists for a span: its columns on the screen, where the shown part starts at column
+-- `left`; and for a run: its start, length and level
 abbrev pub span_numbers : ℕ → Span → List ℕ
 span_numbers left span = (left + span.left) ∷ (left + span.right) ∷ []
 
@@ -130,7 +131,8 @@ module _ (print : Print) (width : ℕ) (kept : List Layout) where
   abbrev pub caret_text : Rules → ℕ → List ℕ
   caret_text rules pos = told_of (option_map caret_numbers (caret_at rules kept pos))
 
-  -- the hit at a column of the screen, and the reply to `hit`: a position, and 1 if it is trailing, else 0
+  -- the hit at a column of the screen, and the reply to `hit`: the position of the hit, and 1 if the hit is
+  -- trailing, else 0
   abbrev pub screen_hit_on : ℕ → ℕ → Option Visual → Option Hit
   screen_hit_on n column (Some line) =
       if nat_lt column (screen_left print width line) then option_map (leftmost line) (hit_at kept n 0) else hit_at kept n (column - screen_left print width line)
@@ -223,8 +225,8 @@ module _ (kept : List Layout) where
   abbrev pub size_text : List ℕ
   size_text = told (length (text_of kept) ∷ length (lines_in kept) ∷ length kept ∷ [])
 
-  -- the replies to `byte` and `utf16` (an offset), `frombyte` and `fromutf16` (a position, and units after
-  -- it)
+  -- the replies to `byte` and `utf16`: an offset; and to `frombyte` and `fromutf16`: a position, and how many
+  -- units of its character precede the offset
   abbrev pub offset_text : Encoding → ℕ → List ℕ
   offset_text encoding pos = told_of (option_map (λ offset. offset ∷ []) (offset_of encoding (text_of kept) pos))
 

@@ -1,4 +1,5 @@
--- The state of a script's run between two lines. No contract of an exported function uses these definitions.
+-- What a command, a line and a chunk of a script do, and the state of a run between two reads. No contract of
+-- an exported function uses these definitions.
 use Rattle.std.specs.Prelude.{◌≡◌, ◌⊎◌, ℕ, ◌+◌, ◌<◌, ◌≤◌, false, true, All, Bool, List, [], ◌∷◌, ◌++◌, length, None, Some, Result, Ok, Err, string_bytes}
 use Rattle.std.specs.List.{list_all, slice_split}
 use Rattle.std.specs.Io.KnownBytes.{Consumes}
@@ -202,7 +203,8 @@ pub record WantsIn (rules : Rules) (options : ScriptOptions) (start : SessionSta
   pub lines : reading.lines ≡ before.lines
   pub fails : FailsIn rules options waiting state_before state before reading writer_before writer f.Memory
 
--- whether a run can read the waiting bytes: it is in a state as in `IsAt`, and its counters do not overflow
+-- whether a run can execute the waiting bytes: its state satisfies `IsAt`, and so few bytes have been read
+-- that no counter overflows
 abbrev pub CanFeed : Rules → ScriptOptions → SessionState → Reading → Device → List ℕ → Type 0
 CanFeed rules options now reading writer_new waiting =
     (start : SessionState) × (reader_old : Device) × (writer_old : Device) × (reader_new : Device)

@@ -23,8 +23,8 @@ pair name value = codes " " ++ name ++ codes " " ++ value
 
 -- ---- values
 
--- A position of the text, given where the paragraph starts and a position in it. The sum saturates at 2^64−1, which no
--- text reaches.
+-- A position in the text, given the start of a paragraph and a position in the paragraph, or `none`. The sum
+-- saturates at 2^64−1, which no text reaches.
 abbrev pub position_text : ℕ → Option ℕ → List ℕ
 position_text start (Some k) = decimal (min (start + k) (2 ^ 64 - 1))
 position_text start None = codes "none"

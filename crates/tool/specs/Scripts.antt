@@ -17,7 +17,7 @@ abbrev pub is_last_line : Ending → List ℕ → Bool
 is_last_line AtEnd rest = nat_lt 0 (length rest)
 is_last_line AtFailure rest = nat_lt LINE_LIMIT (length rest)
 
--- the lines of a script, given the parts into which its line ends split it
+-- the lines of a script, given the parts into which the line ends split the script
 abbrev pub lines_among : Ending → List (List ℕ) → List (List ℕ)
 lines_among ending [] = []
 lines_among ending (rest ∷ []) = if is_last_line ending rest then rest ∷ [] else []
@@ -26,7 +26,8 @@ lines_among ending (line ∷ next ∷ parts) = line ∷ lines_among ending (next
 abbrev pub script_lines : Ending → List ℕ → List (List ℕ)
 script_lines ending bytes = lines_among ending (slice_split is_line_end bytes)
 
--- the command that a line's bytes encode; `None` if the line is too long, not UTF-8, or not valid
+-- the command that a line's bytes encode; `None` if the line is too long, is not UTF-8, or is not a valid
+-- command
 abbrev pub command_of_line : Bool → List ℕ → Option Command
 command_of_line queries line =
     if nat_le (length line) LINE_LIMIT && utf8_valid_len line == length line then command_in queries (chars line) else None

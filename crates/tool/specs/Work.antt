@@ -1,5 +1,5 @@
--- Upper bounds on the work of a script's lines. A command does at most the work of its edit in a session, and
--- no work if it is refused.
+-- Upper bounds on the work of a script's lines. A command does at most as much work as its edit does in a
+-- session. A refused command does none.
 use Rattle.std.specs.Prelude.{ℕ, ◌+◌, Bool, List, [], ◌∷◌, Option, Some, None, is_none, if◌then◌else◌}
 use Rattle.bidi.specs.Cuts.{paragraphs}
 use Rattle.lines.specs.Engine.{analysed_of, filled_of, written_of, RisesBy}

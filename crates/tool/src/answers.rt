@@ -35,7 +35,7 @@ pub fn answer_of(edit: &Result<Damage, EditFault>) -> Answer
     }
 }
 
-/// Returns a reply that consists of at most three numbers on one line.
+/// Returns a reply that consists of these numbers on one line. There must be at most three.
 pub fn told(numbers: &[usize]) -> Answer
     requires { length numbers.now ≤ 3 }
     ensures { result.items ≡ told numbers.now }
@@ -50,7 +50,7 @@ pub fn told(numbers: &[usize]) -> Answer
     answer
 }
 
-/// Returns at most three numbers as text, with a space before each.
+/// Returns these numbers as text, with a space before each. There must be at most three.
 pub fn listed(numbers: &[usize]) -> Answer
     requires { length numbers.now ≤ 3 }
     ensures { result.items ≡ listed numbers.now }
@@ -84,7 +84,7 @@ pub fn told_edge(edge: Edge) -> Answer
     answer
 }
 
-/// Returns the reply that consists of the first and the last edge of a line.
+/// Returns the reply to `ends`, which consists of the first and the last edge of a line.
 pub fn told_edges(first: Edge, last: Edge) -> Answer
     ensures { result.items ≡ told_edges first last }
 {
@@ -96,7 +96,7 @@ pub fn told_edges(first: Edge, last: Edge) -> Answer
     answer
 }
 
-/// Returns the reply to a step that leads nowhere because the edge is at the end of the line.
+/// Returns the reply to `step` if the edge is at the end of its line in that direction.
 pub fn told_end() -> Answer
     ensures { result.items ≡ told_end }
 {
@@ -112,7 +112,8 @@ pub fn out_of_range() -> Answer
     refusal_answer(EditFault::OutOfRange)
 }
 
-/// Returns the reply to `cluster POS`: where the grapheme cluster of a character starts and ends.
+/// Returns the reply to `cluster POS`: where the character's grapheme cluster starts and ends, or
+/// `out_of_range`.
 pub fn cluster_answer<S: ParagraphStore<Kept>>(
     session: &Session<S>,
     pos: usize,
@@ -126,8 +127,8 @@ pub fn cluster_answer<S: ParagraphStore<Kept>>(
     }
 }
 
-/// Returns the reply to `word POS`: where the word of a character starts and ends, and whether it has an
-/// alphabetic or numeric character.
+/// Returns the reply to `word POS`: where the character's word starts and ends, and 1 if the word has an
+/// alphabetic or numeric character, else 0. Past the last character, returns `out_of_range`.
 pub fn word_answer<S: ParagraphStore<Kept>>(
     session: &Session<S>,
     pos: usize,
@@ -141,7 +142,7 @@ pub fn word_answer<S: ParagraphStore<Kept>>(
     }
 }
 
-/// Returns the reply to a conversion of a position to an offset.
+/// Returns the reply to `byte` or `utf16`: the offset, or `out_of_range` if there is none.
 pub fn offset_answer(offset: Option<usize>) -> Answer
     ensures { result.items ≡ told_of (option_map (λ offset. offset ∷ []) offset) }
 {
@@ -151,8 +152,8 @@ pub fn offset_answer(offset: Option<usize>) -> Answer
     }
 }
 
-/// Returns the reply to a conversion of an offset: the position, and how far the offset is past the start of
-/// the character there.
+/// Returns the reply to `frombyte` or `fromutf16`: the position, and how many units of the character at that
+/// position precede the offset, or `out_of_range` if there is no position.
 pub fn position_answer(found: Option<(usize, usize)>) -> Answer
     ensures { result.items ≡ told_of (option_map (λ place. place.0 ∷ place.1 ∷ []) found) }
 {

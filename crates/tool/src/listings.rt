@@ -12,9 +12,9 @@ use device::Sink;
 use lines::VisualLine;
 use text_run::RunFault;
 
-/// Writes the columns of each span of a range, counted from the left edge of the screen. The shown part of
-/// the line starts at column `left`. The positions of the range are counted from the start of the line.
-/// `written` is the number of bytes already written.
+/// Writes a reply that lists the columns of each span of a range, counted from the left edge of the screen.
+/// The shown part of the line starts at column `left`. The positions of the range are counted from the start
+/// of the line. `written` is the number of bytes already written.
 pub fn write_spans<W: Sink>(
     writer: &mut W,
     written: u64,
@@ -36,11 +36,12 @@ pub fn write_spans<W: Sink>(
     write_bytes(writer, all, b"\n")
 }
 
-// Returns the number of spans of a range.
+// Returns how many spans a range covers in a line.
 fn span_count(line: &VisualLine<'_>, start: usize, end: usize) -> usize
     ensures { result ≡ length (spans_of line.now start end) }
 {
-    // The number of spans is at most the number of columns, which the contract of `columns_left` bounds.
+    // There are at most as many spans as columns, whose number is bounded by the contract of `columns_left`.
+    // So `count` does not overflow.
     let _columns = line.columns_left(line.vtol().len());
     let mut count = 0;
     for _span in line.spans(start, end) {
@@ -77,7 +78,7 @@ fn write_each_span<W: Sink>(
     Ok(written)
 }
 
-/// Writes the level runs of a line. `written` is the number of bytes already written.
+/// Writes a reply that lists the level runs of a line. `written` is the number of bytes already written.
 pub fn write_runs<W: Sink>(
     writer: &mut W,
     written: u64,
@@ -107,7 +108,8 @@ fn shown_len(line: &VisualLine<'_>) -> usize
 fn run_count(line: &VisualLine<'_>) -> usize
     ensures { result ≡ length (runs_of line.now.levels) }
 {
-    // The number of runs is at most the number of characters.
+    // A line has no more runs than characters, and `shown_len` is less than 2^64. So `count` does not
+    // overflow.
     let _chars = shown_len(line);
     let mut count = 0;
     for _run in line.runs() {
@@ -138,7 +140,8 @@ fn write_each_run<W: Sink>(
     Ok(written)
 }
 
-/// Writes the ends of a line's grapheme clusters. `written` is the number of bytes already written.
+/// Writes a reply that lists the ends of a line's grapheme clusters. `written` is the number of bytes already
+/// written.
 pub fn write_ends<W: Sink>(writer: &mut W, written: u64, ends: &[usize]) -> Result<u64, RunFault>
     requires { written ≤ (W.state writer.old).passed }
     ensures ok { IfOk result (PassedOn (told_each (λ end. end ∷ []) ends.now) written

@@ -6,18 +6,18 @@ use text_run::RunFault;
 use thiserror::Error;
 use ucd::{ImageFault, TableFault};
 
-/// Why the program ended. `Display` writes the message for standard error or, for help and the version, the
-/// text for standard output.
+/// Why the program ends early. `Display` writes the message for standard error or, for help and the version,
+/// the text for standard output.
 #[derive(Debug, Drop, Error)]
 pub enum ProgramFault {
     #[error("{0}")]
     Line(LineFault),
-    /// A table file cannot be read. The field is its name.
+    /// A table file cannot be read. The field is the file's name.
     #[error("fribidi: cannot read {0}")]
     TableFile(&'static str),
     #[error("fribidi: {0}")]
     Table(TableFault),
-    /// The image of the installed tables is damaged, or of another format or Unicode version.
+    /// The image of the installed tables is damaged, or has another format or Unicode version.
     #[error("fribidi: cannot use tables.image: {0}")]
     TableImage(ImageFault),
     #[error("fribidi: {0}")]

@@ -75,7 +75,8 @@ fn caret_answer<S: ParagraphStore<Kept>>(session: &Session<S>, print: &Print, po
     }
 }
 
-// Returns whether the character at a visual position of a line has an odd level, or false without a position.
+// Returns whether the character at a visual position of a line has an odd level, or false if there is no
+// position.
 fn is_odd_at(line: &VisualLine<'_>, place: Option<usize>) -> bool
     ensures { result ≡ is_odd_at line.now place }
 {
@@ -152,8 +153,8 @@ fn direction_of(is_right: bool) -> Direction
     }
 }
 
-// Returns the caret at an edge of a position. The edge must belong to a character, so it is not the `Before`
-// edge at the end.
+// Returns the caret at an edge of a position, or `None` if the text has no such edge. A `Before` edge must
+// belong to a character, so its position must not be the end of the text.
 fn edge_caret<S: ParagraphStore<Kept>>(
     session: &Session<S>,
     pos: usize,
@@ -280,7 +281,8 @@ fn size_answer<S: ParagraphStore<Kept>>(session: &Session<S>) -> Answer
     ])
 }
 
-// Writes `count` lines, starting at line `first`. `written` is the number of bytes already written.
+// Writes the reply to `lines`: `count` and then `count` lines, starting at line `first`, or `out_of_range`.
+// `written` is the number of bytes already written.
 fn write_lines<W: Sink, S: ParagraphStore<Kept>>(
     session: &Session<S>,
     writer: &mut W,
@@ -308,7 +310,8 @@ fn write_lines<W: Sink, S: ParagraphStore<Kept>>(
     }
 }
 
-// Writes `count` characters, starting at `pos`. `written` is the number of bytes already written.
+// Writes the reply to `text`: the number of bytes and then `count` characters, starting at `pos`, or
+// `out_of_range`. `written` is the number of bytes already written.
 fn write_part<W: Sink, S: ParagraphStore<Kept>>(
     session: &Session<S>,
     writer: &mut W,
@@ -335,8 +338,8 @@ fn write_part<W: Sink, S: ParagraphStore<Kept>>(
     write_bytes(writer, part, b"\n")
 }
 
-// Writes the columns of the screen that a range of characters covers in a line. `written` is the number of
-// bytes already written.
+// Writes the reply to `spans`: the screen columns that a range of characters covers in line `n`, or
+// `out_of_range`. `written` is the number of bytes already written.
 fn write_selection<W: Sink, S: ParagraphStore<Kept>>(
     session: &Session<S>,
     writer: &mut W,
@@ -364,7 +367,8 @@ fn write_selection<W: Sink, S: ParagraphStore<Kept>>(
     write_spans(writer, written, left, &line, start, end)
 }
 
-// Writes the level runs of a line. `written` is the number of bytes already written.
+// Writes the reply to `runs`: the level runs of line `n`, or `out_of_range` past the last line. `written` is
+// the number of bytes already written.
 fn write_line_runs<W: Sink, S: ParagraphStore<Kept>>(
     session: &Session<S>,
     writer: &mut W,
@@ -384,7 +388,8 @@ fn write_line_runs<W: Sink, S: ParagraphStore<Kept>>(
     }
 }
 
-// Writes the ends of a line's grapheme clusters. `written` is the number of bytes already written.
+// Writes the reply to `clusters`: where the grapheme clusters in line `n` end, or `out_of_range` past the
+// last line. `written` is the number of bytes already written.
 fn write_line_clusters<W: Sink, S: ParagraphStore<Kept>>(
     session: &Session<S>,
     writer: &mut W,
@@ -405,8 +410,8 @@ fn write_line_clusters<W: Sink, S: ParagraphStore<Kept>>(
     }
 }
 
-// Writes how the algorithms arrive at the level and the break mark of a character. `written` is the number of
-// bytes already written.
+// Writes the reply to `why`: how the algorithms arrive at the level and the break mark of a character, or
+// `out_of_range` past the last character. `written` is the number of bytes already written.
 fn write_reasons<W: Sink, S: ParagraphStore<Kept>>(
     session: &Session<S>,
     writer: &mut W,

@@ -94,7 +94,8 @@ fn push_number(line: &mut Vec<u8>, name: &str, number: usize) -> Result<(), Allo
     push_pair(line, name, buffer.format(number))
 }
 
-// Appends a name and a position of the text, given where the paragraph starts and a position in it.
+// Appends a name and a position in the text, given the start of a paragraph and a position in the paragraph.
+// For a missing position, appends `none`.
 fn push_position(
     line: &mut Vec<u8>,
     name: &str,
@@ -281,7 +282,7 @@ fn push_break(line: &mut Vec<u8>, start: usize, reason: &Reason) -> Result<(), A
     push_mark(line, reason.mark)
 }
 
-/// Returns the reply that consists of the reasons for a character.
+/// Returns the reply to `why`, given the reasons for a character's level and break mark.
 pub fn reasons_line(alloc: Global, reasons: &CharReasons) -> Result<Vec<u8>, AllocError>
     ensures { IfOk result (λ line. line.items ≡ reasons_text reasons.now) }
 {

@@ -37,7 +37,7 @@ use text_run::RunFault;
 /// The maximum length of a line in bytes, excluding the line end.
 pub const LINE_LIMIT: usize = 1_048_576;
 
-// The documentation states this limit as a number, and contracts use the constant.
+// Proves that the constant, which contracts use, equals the number in the documentation.
 const _: () = prove!(LINE_LIMIT == 1_048_576);
 
 /// Options for running a script.
@@ -320,7 +320,7 @@ fn is_too_long(line: &[u8], more: &[u8]) -> bool
     line.len() > LINE_LIMIT || more.len() > LINE_LIMIT - line.len()
 }
 
-// Returns the index of the first line end.
+// Returns the index of the first line end in a chunk, or `None` if no line ends in it.
 fn line_end(chunk: &[u8]) -> Option<usize>
     ensures { MatchOption result (NoEnd chunk.now) (λ n. (n < length chunk.now)
         × EndsIn chunk.now (take n chunk.now) (drop (n + 1) chunk.now)) }
@@ -328,8 +328,8 @@ fn line_end(chunk: &[u8]) -> Option<usize>
     chunk.iter().position(|&b| b == b'\n')
 }
 
-// Consumes the bytes of a chunk up to the first line end, and executes the line. If the chunk has no line
-// end, consumes all its bytes. Returns the number of bytes consumed.
+// Consumes a chunk up to and including its first line end, and executes the line. If the chunk has no line
+// end, appends all its bytes to the unfinished line. Returns the number of bytes consumed.
 fn take_part<W: Sink, S: ParagraphStore<Kept>>(
     session: &mut Session<S>,
     writer: &mut W,
@@ -414,7 +414,7 @@ fn finish<W: Sink, S: ParagraphStore<Kept>>(
         → IsScriptRun (rules_of session.old.engine) options.now start session.new reader_start reader_now
         writer_start (W.state writer.new) result }
 
-    // An allocation can fail only if there is such a line, and only for it.
+    // An allocation can fail only if the unfinished line is not empty, and only while this line is executed.
     ensures memory { IsErrOf result RunFault.Memory → (0 < length reading.old.line.items)
         × FailsAt (rules_of session.old.engine) options.now reading.old.line.items
         reading.new reading.old.lines reading.old.written (held_at session.old)
@@ -427,7 +427,8 @@ fn finish<W: Sink, S: ParagraphStore<Kept>>(
     execute_line(session, writer, options, reading)
 }
 
-// Reads a chunk, and executes the lines that end in it. Returns whether the script continues.
+// Reads a chunk, and executes the lines that end in it. At the end of the script, executes the unfinished
+// line, if there is one, and returns false.
 fn step<R: Source, W: Sink, S: ParagraphStore<Kept>>(
     reader: &mut R,
     writer: &mut W,
@@ -507,9 +508,9 @@ pub fn run_script<R: Source, W: Sink, S: ParagraphStore<Kept> + Drop>(
 /// Runs an edit script on a session. Each line is executed as soon as its end has been read, and its reply is
 /// written before more is read. At most one line and one chunk of the script are kept in memory.
 ///
-/// However the run ends, the session contains the edits of all lines whose reply was written, and of the line
-/// whose reply could not be written. The session's work is at most what these lines and the line at which the
-/// run ended require.
+/// However the run ends, the session contains the edits of all lines whose reply was written, and of a line
+/// whose reply could not be written completely. The session's work is at most what these lines and the line
+/// at which the run ended require.
 ///
 /// Fails with `Memory` only before anything is read, or while a line is read or executed. The line then
 /// changes nothing, and no byte of its reply is written.

@@ -45,11 +45,11 @@ bidi_tag class = tag_of bidi_type.the_type class
 abbrev pub bidi_class_at : ℕ → BidiClass
 bidi_class_at place = slice_index_or bidi.all_classes place L
 
--- the class that a line-breaking number encodes
+-- the class that a line-breaking number encodes, or BK if the number is out of range
 abbrev pub line_class_at : ℕ → LineClass
 line_class_at number = slice_index_or numbered_classes number BK
 
--- the detail that a line-breaking number encodes
+-- the detail that a line-breaking number encodes, or `Plain` if the number is out of range
 abbrev pub line_detail_at : ℕ → LineDetail
 line_detail_at number = slice_index_or numbered_details number Plain
 
@@ -103,7 +103,7 @@ abbrev pub line_index : PropertyAnswers → ℕ
 line_index a =
     line_number a.line_class a.line_detail * 8 + (if a.is_wide then 4 else 0) + (if a.is_mark then 2 else 0) + (if a.is_future_pictograph then 1 else 0)
 
--- the properties for line breaking, decoded from their number
+-- the properties that line breaking needs, and their decoding from that number
 pub record LineAnswers : Type 0 where
   pub line_class : LineClass
   pub line_detail : LineDetail

@@ -1,4 +1,4 @@
--- Kinds of bidi classes (UAX #9, section 3.2, and BD8).
+-- Tests for kinds of bidi classes (UAX #9, section 3.2, and BD8).
 use Rattle.std.specs.Prelude.{ℕ, Bool, true, false, List, slice_index_or}
 use Rattle.ucd.specs.declared.bidi_class.BidiClass.{BidiClass}
 use Rattle.ucd.specs.declared.properties.Properties.{Properties}

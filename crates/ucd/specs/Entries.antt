@@ -18,13 +18,13 @@ module _ {V : Type 0} where
     pub whole : (i : ℕ) (e : Entry V) → slice_get es i ≡ Some e → (e.first ≤ e.last) × (e.last < 1114112)
     pub apart : (i : ℕ) (e : Entry V) → slice_get es i ≡ Some e → (c : ℕ) → IsTrue (covers e c) → value_at (take i es) c ≡ None
 
-  -- the flags in `named` say for each code point whether it has a value
+  -- the flags in `named` say for each code point whether an entry covers it
   pub record AreNamed (es : List (Entry V)) (named : List Bool) : Type 0 where
     pub len : length named ≡ 1114112
     pub each : (c : ℕ) → c < 1114112 → slice_index_or named c false ≡ is_some (value_at es c)
 
-  -- `new` assigns the entry's value to the code points that the entry covers, which have no value in `old`.
-  -- Every other code point has the same value as in `old`.
+  -- None of the code points that the entry covers has a value in `old`, and `new` assigns the entry's value
+  -- to each of them. Every other code point has the same value as in `old`.
   pub record AddsEntry (old new : List (Entry V)) (e : Entry V) : Type 0 where
     pub free : (c : ℕ) → IsTrue (covers e c) → value_at old c ≡ None
     pub values : (c : ℕ) → value_at new c ≡ (if covers e c then Some e.value else value_at old c)

@@ -61,8 +61,8 @@ module _ {V : Type 0} (form : Form V) where
   abbrev pub AddsLine : List (Entry V) → List (Entry V) → List ℕ → Type 0
   AddsLine old new line = AddsReading (reading_of form line) old new
 
-  -- The cause that prevents a line from being added. `Memory` can be the cause only if the line is not faulty
-  -- and lists a character.
+  -- `why` is the cause for which adding a line fails. `Memory` can be the cause only if the line is not
+  -- faulty and lists a character.
   abbrev pub IsReadingCause : Result (Option (Entry V)) Cause → List (Entry V) → Cause → Type 0
   IsReadingCause (Ok None) es why = ⊥
   IsReadingCause (Ok (Some e)) es cause.NamedBefore = IsTaken es e

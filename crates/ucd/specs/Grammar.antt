@@ -75,8 +75,8 @@ pub record Form (V : Type 0) : Type 0 where
   pub has_third : Bool
   pub value : List ℕ → List ℕ → Option (Option V)
 
--- The result of parsing a line: no entry, an entry with its range and value, or the cause for which the first
--- failing test rejects it.
+-- The result of parsing a line: no entry, an entry with its range and value, or the cause that the first
+-- failing test reports.
 module _ {V : Type 0} (form : Form V) where
   abbrev pub by_value : ℕ → ℕ → Option (Option V) → Result (Option (Entry V)) Cause
   by_value first last None = Err cause.Value

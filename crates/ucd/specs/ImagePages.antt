@@ -1,4 +1,4 @@
--- Properties that are checked for whole pages, without looking at each code point.
+-- Properties that the checks of separators, brackets and mirrors skip, a whole page at a time.
 use Rattle.std.specs.Prelude.{◌≡◌, ◌≢◌, Bool, false}
 use Rattle.ucd.specs.Answers.{PropertyAnswers}
 use Rattle.ucd.specs.declared.bidi_class.BidiClass.TheVariants.{B}

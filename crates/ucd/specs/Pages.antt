@@ -38,7 +38,7 @@ pictograph_in a = if a.is_future_pictograph then Some (record {}) else None
 abbrev pub EndsWithPage : List PropertyAnswers → List PropertyAnswers → Type 0
 EndsWithPage pages page = (256 ≤ length pages) × (drop (length pages - 256) pages ≡ page)
 
--- `new` has the page `page` under the given number. `new` is `old`, possibly with one page appended.
+-- In `new`, the page with the given number equals `page`. `new` is `old`, possibly with one page appended.
 pub record HasPage (old new page : List PropertyAnswers) (number : ℕ) : Type 0 where
   pub whole : length new % 256 ≡ 0
   pub room : length new ≤ length old + 256

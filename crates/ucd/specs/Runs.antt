@@ -6,12 +6,12 @@ use Rattle.ucd.specs.declared.grammar.Entry.{Entry}
 use Rattle.ucd.specs.declared.runs.Left.{Left}
 use Rattle.ucd.specs.declared.runs.Runs.{Runs}
 
--- the first entry does not end before the code point
+-- the first entry, if there is one, does not end before the code point
 abbrev pub EndsFrom : {V : Type 0} → ℕ → List (Entry V) → Type 0
 EndsFrom point [] = ⊤
 EndsFrom point (e ∷ es) = point ≤ e.last
 
--- the remaining entries of all files
+-- the remaining entries of all lists
 abbrev pub layers_left : Left → Layers
 layers_left l = record {
   version = l.version;
@@ -26,7 +26,7 @@ layers_left l = record {
   categories = l.categories;
 }
 
--- in each file, the first remaining entry does not end before the code point
+-- in each list, the first remaining entry, if there is one, does not end before the code point
 pub record AllEndFrom (point : ℕ) (k : Layers) : Type 0 where
   pub default_classes : EndsFrom point k.default_classes
   pub bidi_classes : EndsFrom point k.bidi_classes

@@ -51,7 +51,7 @@ layers_of version e = record {
   categories = e.breaks.categories;
 }
 
--- the properties of one code point
+-- the properties of a code point after the values that the entries assign to it have been applied
 abbrev pub said : Layers → ℕ → PropertyAnswers
 said k c =
     put_by (put_category k.version) (value_at k.categories c) (put_by put_pictograph (value_at k.pictographs c)

@@ -117,8 +117,7 @@ pub record AreTablesAs (version : Version) (files : UcdFiles) (t : Tables) : Typ
 abbrev pub AreTablesOf : UcdFiles → Tables → Type 0
 AreTablesOf = AreTablesAs V15_0
 
--- The fault is at the first faulty line of this file. If memory ran out, the file and line of the fault are
--- 0.
+-- The fault is at the first faulty line of this file, or is an allocation failure, whose file and line are 0.
 module _ {V : Type 0} (number : ℕ) (form : Form V) (lines : List (List ℕ)) where
   abbrev pub IsFaultBy : ℕ → ℕ → Cause → Type 0
   IsFaultBy file line cause.Memory = (file ≡ 0) × (line ≡ 0)
@@ -131,7 +130,7 @@ module _ {V : Type 0} (number : ℕ) (form : Form V) (lines : List (List ℕ)) w
   abbrev pub IsInOr : (TableFault → Type 0) → TableFault → Type 0
   IsInOr after fault = IsFaultIn fault ⊎ (IsGood form lines × after fault)
 
--- the first fault in the files; the files for bidirectional text come before those for line breaking
+-- the first fault in the files for bidirectional text; below, in those for line breaking, and in all files
 abbrev pub IsBidiFaultOf : UcdFiles → TableFault → Type 0
 IsBidiFaultOf files =
     IsInOr 1 bidi_class_form (lines_of files.bidi_class.now) (

@@ -1,4 +1,4 @@
-//! Sources of bidi classes.
+//! Sources of bidi classes: a text and tables, properties, or a list of classes.
 ghost use Rattle.std.specs.Prelude.{◌≡◌, ◌<◌, List, length, map};
 ghost use Rattle.ucd.specs.Classes.{class_at, class_in};
 ghost use Rattle.ucd.specs.Tables.{class_of};

@@ -38,7 +38,7 @@ static MISSING_17: [Entry<BidiClass>; 23] = [
     Entry { first: 0x1EF00, last: 0x1EFFF, value: BidiClass::R },
 ];
 
-/// Returns the ranges of code points whose default class is not `L`, with this class.
+/// Returns the ranges of code points whose default class is not `L`, each with its default class.
 #[tactic(auto, unfolding(crate::specs::Defaults::missing_17))]
 pub fn default_classes(version: Version) -> &'static [Entry<BidiClass>]
     ensures entries { result.now ≡ default_entries version }

@@ -8,7 +8,7 @@ use crate::grammar::{Entry, Layer};
 use crate::properties::Properties;
 use crate::version::Version;
 
-/// Marks a code point as the dotted circle.
+/// The value of an entry that marks its code point as the dotted circle.
 #[derive(Clone, Copy)]
 pub struct Circle;
 

@@ -25,7 +25,8 @@ use crate::version::Version;
 use crate::width::Width;
 use std::alloc::Global;
 
-// Parses one file. `number` is its number in `FILE_NAMES`, starting at 1.
+// Parses one file. Fails with its first fault, or if memory runs out. `number` is the file's number in
+// `FILE_NAMES`, starting at 1.
 fn read_table<V: Property>(
     alloc: Global,
     version: Version,

@@ -86,7 +86,7 @@ impl TableFault {
     }
 }
 
-// The message of a fault, which states its file, line and cause, or that memory ran out.
+// The message for a fault: its file, line and cause, or that memory ran out.
 #[derive(Clone, Copy)]
 struct Message<'a>(&'a usize, &'a usize, &'a Cause);
 

@@ -15,7 +15,8 @@ pub struct FileFault {
     pub cause: Cause,
 }
 
-// Parses one line, and adds its entry if it has one.
+// Parses one line, and adds its entry if it has one. Fails with the cause if the line is faulty, or with
+// `Memory`.
 fn add_line<V: Property>(
     version: Version,
     table: &mut RangeTable<V>,

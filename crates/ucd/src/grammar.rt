@@ -177,7 +177,7 @@ fn entry_of<V: Property>(
     }
 }
 
-// Parses a line that contains more than a comment.
+// Parses the fields of a line that contains more than a comment.
 fn read_fields<V: Property>(version: Version, content: &[u8]) -> Result<Option<Entry<V>>, Cause>
     ensures { result ≡ by_fields (V.form version) (fields_of content.now) }
 {
@@ -220,7 +220,7 @@ pub fn read_line<V: Property>(version: Version, line: &[u8]) -> Result<Option<En
     read_any_line(version, line)
 }
 
-// Parses a line of any form.
+// Does the same as `read_line`, without the fast path for lines of the most common forms.
 fn read_any_line<V: Property>(version: Version, line: &[u8]) -> Result<Option<Entry<V>>, Cause>
     ensures { result ≡ reading_of (V.form version) line.now }
 {

@@ -73,7 +73,7 @@ pub fn entries_in(alloc: Global, bytes: &[u8], count: usize) -> Result<Vec<Prope
     Ok(entries)
 }
 
-/// The pages of an image. `loud` is the result of `loud_pages`.
+/// The pages of an image. `loud` has a flag for each page (`loud_pages`).
 #[derive(Drop)]
 pub struct ImagePages {
     pub(crate) index: Vec<u16>,
@@ -116,7 +116,7 @@ fn is_loud(entries: &[Properties], start: usize) -> bool
 }
 
 impl ImagePages {
-    /// Creates pages from an index and entries.
+    /// Creates the pages from the page number of each block and the concatenated entries.
     pub fn new(
         alloc: Global,
         index: Vec<u16>,

@@ -110,7 +110,7 @@ pub fn point_bytes<P: Point>(
     Ok(bytes)
 }
 
-// Appends the pair of a code point, if the map contains the code point.
+// Appends a code point and the number of its value, if the map contains the code point.
 fn push_if_there<P: Point>(
     bytes: &mut Vec<u8>,
     points: &BTreeMap<u32, P>,

@@ -39,7 +39,7 @@ pub trait Point: Copy + Drop {
 }
 
 // Decodes the pair at an offset. Returns the code point and its value, or `None` if the code point is out of
-// range or less than `next`, or the second number encodes no value.
+// range or less than `next`, or if its number encodes no value.
 fn pair_at<P: Point>(bytes: &[u8], at: usize, next: u32) -> Option<(u32, P)>
     requires { at + 8 ≤ length bytes.now }
     ensures { MatchOption result

@@ -66,15 +66,15 @@ fn push_checksum(bytes: &mut Vec<u8>) -> Result<(), AllocError>
     Ok(())
 }
 
-/// Page numbers and pages as bytes.
+/// The page number of each block, and the pages, encoded as bytes.
 #[derive(Drop)]
 pub struct PageBytes {
     pub(crate) index: Vec<u8>,
     pub(crate) entries: Vec<u8>,
 }
 
-/// Returns the page number of each block, and the distinct pages. If `separates` is set, only
-/// LF and CR end paragraphs in these pages.
+/// Encodes the page number of each block and the distinct pages as bytes. If `separates` is set, only LF and
+/// CR end paragraphs in these pages.
 pub fn page_bytes(alloc: Global, pages: &Pages, separates: bool) -> Result<PageBytes, AllocError>
     ensures { IfOk result (λ bytes. (version : Version)
         → ((c : ℕ) → c < 1114112

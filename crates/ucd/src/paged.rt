@@ -61,7 +61,7 @@ impl PagedTables {
     ghost use Rattle.ucd.specs.Versions.{IsOfVersion};
     ghost use Rattle.ucd.specs.Said.{contents_of, AreKnown};
 
-    /// Stores the entries of the files in pages.
+    /// Stores the entries of the files in pages and maps.
     pub fn of(alloc: Global, version: Version, entries: &Entries) -> Result<PagedTables, AllocError>
         requires { AreKnown version entries.now }
         ensures version { IfOk result (λ tables. tables.version ≡ version) }
@@ -124,7 +124,8 @@ impl PagedTables {
         self.version
     }
 
-    /// States that the line breaking class and the detail of each character exist in the version.
+    /// States, as a theorem, that the line breaking class and the detail of each character exist in the
+    /// tables' version.
     pub fn properties_fit_version(&self)
         ensures { (c : ℕ) → c < 1114112 → IsOfVersion self.now.version (properties_of self.now c) }
     {

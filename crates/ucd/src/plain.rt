@@ -8,7 +8,7 @@ ghost use Rattle.ucd.specs.PlainLines.{AreSpaces, AreWord, IsPlain, IsWordByte};
 
 use crate::digits::digit_of;
 
-/// The code points and the name in a line of one of these forms.
+/// The code points and the name in a line that `plain_line` can parse.
 #[derive(Clone, Copy)]
 pub struct PlainLine<'a> {
     pub first: u32,
@@ -16,8 +16,8 @@ pub struct PlainLine<'a> {
     pub name: &'a [u8],
 }
 
-/// Parses a line with one or two code points, one name, and only spaces around them. Returns `None` for any
-/// other line, which may still be valid.
+/// Parses a line of one of the forms above. Only spaces may separate its parts. Returns `None` for any other
+/// line, which may still be valid.
 pub fn plain_line(line: &[u8]) -> Option<PlainLine<'_>>
     ensures { IfSome result (λ p. IsPlain line.now p.first p.last p.name.now) }
 {
@@ -87,7 +87,8 @@ fn spaces_end(line: &[u8], start: usize) -> usize
     end
 }
 
-// Returns the index of the first byte from `start` on that cannot belong to a word, or the length.
+// Returns the index of the first byte from `start` on that cannot belong to a word, or the length if there is
+// none.
 fn word_end(line: &[u8], start: usize) -> usize
     requires { start ≤ length line.now }
     ensures within { (start ≤ result) × (result ≤ length line.now) }

@@ -261,7 +261,7 @@ impl Properties {
         BidiClass::at((self.bits % 32) as usize)
     }
 
-    /// Returns whether the bidi class is B, from the bits alone.
+    /// Returns whether the bidi class is B, without decoding the class.
     pub(crate) fn is_separator(self) -> bool
         ensures no { result ≡ false → self.bidi_class ≢ B }
         ensures yes { result ≡ true → self.bidi_class ≡ B }

@@ -49,7 +49,7 @@ impl<V: Property> RisingEntries<V> {
         let Ok(mut entries) = collect(alloc, version, file) else {
             return None;
         };
-        // The lines form a few ascending runs, which a stable sort merges.
+        // In most files, the lines form a few ascending runs, which a stable sort merges quickly.
         if entries.sort_by_key(|entry| entry.first).is_err() {
             return None;
         }
@@ -75,7 +75,8 @@ fn are_rising<V: Copy>(entries: &[Entry<V>]) -> bool
     true
 }
 
-// Returns the entries of all lines, in the order of the lines. Different lines may list the same character.
+// Returns the entries of all lines, in the order of the lines. Fails if a line does not conform to the
+// grammar, or if memory runs out. Does not check whether lines list the same character.
 fn collect<V: Property>(
     alloc: Global,
     version: Version,
@@ -95,7 +96,7 @@ fn collect<V: Property>(
     Ok(entries)
 }
 
-// Parses one line, and appends its entry if it has one.
+// Parses one line, and appends its entry, without surrogates, if it has one.
 fn collect_line<V: Property>(
     version: Version,
     entries: &mut Vec<Entry<V>>,
@@ -114,7 +115,7 @@ fn collect_line<V: Property>(
     }
 }
 
-// Appends an entry without its surrogates, as up to two entries.
+// Appends the parts of an entry below and above the surrogates, except for empty parts.
 fn push_characters<V: Copy>(entries: &mut Vec<Entry<V>>, entry: Entry<V>) -> Result<(), AllocError>
     ensures { OnOk result (entries.new.items ≡ entries.old.items ++ characters_of entry) }
 {

@@ -96,7 +96,8 @@ impl<'a, V: Layer> Cursor<'a, V> {
         left
     }
 
-    // Returns the run with the value at its start applied, and shortened if the value changes before its end.
+    // Applies the value at the start of a run to the run's properties, and shortens the run if the value
+    // changes before its end.
     fn applied(&self, version: Version, run: Run) -> Run
         requires ends { EndsFrom run.start self.now }
         requires run { run.start < run.end }

@@ -117,7 +117,7 @@ impl Tables {
         self.shared.to_image(alloc, self.separates_lines)
     }
 
-    // Stores the entries of the files in pages.
+    // Stores the entries of the files in pages and maps.
     fn of(alloc: Global, version: Version, entries: &Entries) -> Result<Tables, AllocError>
         requires { AreKnown version entries.now }
         ensures version { IfOk result (λ tables. tables.version ≡ version) }
@@ -171,7 +171,8 @@ impl Tables {
         self.shared.version()
     }
 
-    /// States that tables of Unicode 15.0 assign no class or detail of a later version to any character.
+    /// States, as a theorem, that tables of Unicode 15.0 assign no line breaking class or detail of a later
+    /// version.
     pub fn classes_fit_version(&self)
         ensures { self.now.version ≡ V15_0 → (c : ℕ) → c < 1114112
             → (line_tag (line_class_of self.now c) < LINE_CLASS_COUNT_15)

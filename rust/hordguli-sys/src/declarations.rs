@@ -306,8 +306,8 @@ pub struct hordguli_run {
     pub zero: u32,
 }
 
-/// The position `pos` of the character that contains a byte or code unit, and the number `rest` of the
-/// character's bytes or code units before that one.
+/// The position `pos` of the character that contains a given byte or code unit, and the number `rest` of the
+/// character's bytes or code units before the given one.
 #[derive(Clone, Copy, Debug, Default, PartialEq, Eq)]
 #[repr(C)]
 pub struct hordguli_position {
@@ -415,8 +415,8 @@ pub struct hordguli_script_run {
 
 /// How the algorithm arrives at the level of a character (UAX #9). A position that does not exist is
 /// UINT32_MAX, and a class that does not exist is 0xFF. A character that X9 removes has no `sequence`, `sos`
-/// or `eos`, no classes after the original one, and no case. Its `left` is the last character before it that
-/// X9 keeps, which determines its level.
+/// or `eos`, no classes after the original one, and no bracket case. Its `left` is the last character before
+/// it that X9 keeps, which determines its level.
 #[derive(Clone, Copy, Debug, Default, PartialEq, Eq)]
 #[repr(C)]
 pub struct hordguli_reason {
@@ -452,8 +452,8 @@ pub struct hordguli_reason {
     pub neutral: u8,
 }
 
-/// The rule that decides a break mark (UAX #14), and what the rule reads. A base is a character and what LB9 attaches to
-/// it. A position that does not exist is UINT32_MAX.
+/// The rule that decides a break mark (UAX #14), and the bases and classes to which it is applied. A base is a
+/// character and what LB9 attaches to it. A position that does not exist is UINT32_MAX.
 #[derive(Clone, Copy, Debug, Default, PartialEq, Eq)]
 #[repr(C)]
 pub struct hordguli_break_reason {
@@ -494,7 +494,7 @@ pub struct hordguli_character {
 }
 
 extern "C" {
-    /// Returns a short English description of a status, or "unknown status".
+    /// Returns a short English description of a status, or "unknown status" for any other number.
     pub fn hordguli_status_text(status: hordguli_status) -> *const c_char;
     /// Returns the version of the library, such as "0.6.0".
     pub fn hordguli_version() -> *const c_char;
@@ -506,7 +506,7 @@ extern "C" {
     ///
     /// Since: 0.6.
     pub fn hordguli_width_unicode_version() -> *const c_char;
-    /// Opens the tables of Unicode 15.0 that the library contains. Reads no file.
+    /// Opens the built-in tables of Unicode 15.0. Reads no file.
     ///
     /// Errors: NULL, ALREADY_OPEN, NO_MEMORY.
     ///
@@ -514,7 +514,7 @@ extern "C" {
     ///
     /// Since: 0.6.
     pub fn hordguli_tables_open_builtin(tables: *mut hordguli_tables) -> hordguli_status;
-    /// Opens the tables of `version` that the library contains, such as those of HORDGULI_UNICODE_17_0. Reads no file.
+    /// Opens the built-in tables of Unicode `version`, such as HORDGULI_UNICODE_17_0. Reads no file.
     ///
     /// Errors: NULL, UNKNOWN_OPTION (another version), ALREADY_OPEN, NO_MEMORY.
     ///
@@ -615,9 +615,9 @@ extern "C" {
     /// ```
     ///
     /// The handle keeps the memory that a call used. A later call that needs no more memory allocates nothing,
-    /// unless only one of the two calls has HORDGULI_LINE_SEPARATORS. The handle keeps at most 5 MB: memory for a
-    /// text of more than 65,536 bytes, or for as many bytes of lines, is freed. `hordguli_tables_close` frees what
-    /// is kept. Threads that call this function at the same time each need their own tables handle.
+    /// unless only one of the two calls has HORDGULI_LINE_SEPARATORS. The handle keeps at most 5 MB: memory for
+    /// more than 65,536 bytes of text, or of lines, is freed. `hordguli_tables_close` frees what is kept. Threads
+    /// that call this function at the same time each need their own tables handle.
     ///
     /// On NOT_UTF8, call `hordguli_valid_utf8` to find the first invalid byte. NO_MEMORY comes before NO_ROOM,
     /// because the lines are collected in memory before their size is known.
@@ -652,8 +652,8 @@ extern "C" {
     ) -> hordguli_status;
     /// Stores in `*valid` the length of the longest prefix of `bytes` that is valid UTF-8: `length` if all bytes
     /// are valid, else the index of the first invalid byte. A byte is invalid if it belongs to no complete
-    /// character, even at the end of `bytes`. After another function has returned NOT_UTF8, the text before this
-    /// index is valid.
+    /// character. So an incomplete character at the end of `bytes` is invalid. After another function has returned
+    /// NOT_UTF8, the text before this index is valid.
     ///
     /// Errors: NULL, OVERLAP.
     ///
@@ -692,7 +692,7 @@ extern "C" {
     ) -> hordguli_status;
     /// Opens a session on a text. `width` is in columns. The session shares the tables, so their handle may be
     /// closed before the session. On NOT_UTF8, call `hordguli_valid_utf8` to find the first invalid byte. If 2^63
-    /// sessions already share the tables, NO_MEMORY is returned, and comes directly after CLOSED.
+    /// sessions already share the tables, NO_MEMORY is returned. This is checked directly after CLOSED.
     ///
     /// Errors: NULL, OVERLAP, WIDTH_OUT_OF_RANGE (above 65,535), UNKNOWN_OPTION, NOT_UTF8, ALREADY_OPEN (the session),
     /// CLOSED (the tables), WIDTH_OUT_OF_RANGE (0), TEXT_TOO_LONG, PARAGRAPH_TOO_LONG, NO_MEMORY.
@@ -791,12 +791,12 @@ extern "C" {
         damage: *mut hordguli_damage,
     ) -> hordguli_status;
     /// Stores in `*changed` which lines changed in the last successful call that edited the text, set the width or
-    /// set advances. These are the lines of the call's damage, which consists of whole paragraphs, except the
-    /// unchanged lines at its start and then those at its end. An unchanged line has the same characters, levels,
-    /// maps, columns, advances, base level and length as before, and is the first line of its paragraph if and
-    /// only if it was before. The padding, which depends on the width, is not compared: RTL lines move when the
-    /// width changes, so redraw all of them. After the session is opened, all lines count as changed. A failed
-    /// call does not change the result.
+    /// set advances. The call's damage consists of whole paragraphs. The changed lines are those of the damage,
+    /// without the unchanged lines at its start and then those at its end. An unchanged line has the same
+    /// characters, levels, maps, columns, advances, base level and length as before, and is the first line of its
+    /// paragraph if and only if it was before. The padding, which depends on the width, is not compared: RTL lines
+    /// move when the width changes, so redraw all of them. After the session is opened, all lines count as
+    /// changed. A failed call does not change the result.
     ///
     /// Errors: NULL, OVERLAP, CLOSED.
     ///
@@ -914,8 +914,8 @@ extern "C" {
     ) -> hordguli_status;
     /// Writes `count` lines, starting with line `first`, to a buffer, as UTF-8. NULL with capacity 0 returns NO_ROOM if
     /// there is anything to write (see BUFFERS). `print` selects what is written for each line, in the order VISUAL,
-    /// BASEDIR, LTOV, VTOL, LEVELS. Each of these items ends in U+000A. Numbers are decimal, separated by spaces. For
-    /// example, to write the lines that an edit replaced:
+    /// BASEDIR, LTOV, VTOL, LEVELS. Each of these items ends with U+000A. Numbers are decimal, separated by
+    /// spaces. For example, to write the lines that an edit replaced:
     ///
     /// ```c
     /// status = hordguli_lines_utf8(&session, damage.first_line, damage.new_lines,
@@ -951,8 +951,8 @@ extern "C" {
         length: *mut usize,
     ) -> hordguli_status;
     /// Stores `count` characters, starting at `pos`, in an array of `capacity` elements, in logical order and not mirrored,
-    /// as a shaper needs them. `*length` is `count`. NULL with capacity 0 returns NO_ROOM, unless `count` is 0 (see
-    /// BUFFERS).
+    /// as a shaper needs them. Stores `count` in `*length`. NULL with capacity 0 returns NO_ROOM, unless `count`
+    /// is 0 (see BUFFERS).
     ///
     /// Errors: NULL, OVERLAP, CLOSED, OUT_OF_RANGE, NO_ROOM.
     ///
@@ -991,8 +991,8 @@ extern "C" {
         pos: usize,
         byte: *mut usize,
     ) -> hordguli_status;
-    /// Stores in `*unit` the length of the text before `pos` in UTF-16 code units, the unit of the Language Server Protocol.
-    /// Fails with OUT_OF_RANGE if `pos` is past the end.
+    /// Stores in `*unit` the length, in UTF-16 code units, of the text before `pos`. This is the default unit of
+    /// the Language Server Protocol. Fails with OUT_OF_RANGE if `pos` is past the end.
     ///
     /// Errors: NULL, OVERLAP, CLOSED, OUT_OF_RANGE.
     ///
@@ -1125,8 +1125,8 @@ extern "C" {
         pos: usize,
         cluster: *mut hordguli_cluster,
     ) -> hordguli_status;
-    /// Stores in `*word` the word that contains the character at `pos`: the segment of the paragraph between the
-    /// last word boundary (UAX #29) at or before `pos` and the next one. Fails with OUT_OF_RANGE if `pos` is the
+    /// Stores in `*word` the word that contains the character at `pos`: the segment of the paragraph from the last
+    /// word boundary (UAX #29) at or before `pos` to the next boundary. Fails with OUT_OF_RANGE if `pos` is the
     /// end of the text.
     ///
     /// The next word starts at `word.end`, and the previous word contains the character at `word.start - 1`.
@@ -1178,11 +1178,11 @@ extern "C" {
     ///   - At a character that is not shown, and for the edge before the end of the text: as in
     ///     `hordguli_caret_at`.
     ///
-    /// `level` is the level of that character, or the base level if the character is not shown or there is none.
-    /// In the line where a new paragraph would start, an odd `level` means that the caret is at the right edge of
-    /// the screen. A block cursor covers the cell at `column` if `level` is even, else the cell to the left of
-    /// `column`. If there is no such cell, it covers the nearest one. Fails with OUT_OF_RANGE if the position is
-    /// past the end of the text, and for the edge after position 0.
+    /// `level` is the level of the edge's character, or the base level if that character is not shown or does not
+    /// exist. In the line where a new paragraph would start, an odd `level` means that the caret is at the right
+    /// edge of the screen. A block cursor covers the cell at `column` if `level` is even, else the cell to the
+    /// left of `column`. If there is no such cell, it covers the nearest one. Fails with OUT_OF_RANGE if the
+    /// position is past the end of the text, and for the edge after position 0.
     ///
     /// Errors: NULL, OVERLAP, UNKNOWN_OPTION, CLOSED, OUT_OF_RANGE, NO_MEMORY.
     ///
@@ -1195,10 +1195,10 @@ extern "C" {
         caret: *mut hordguli_caret,
     ) -> hordguli_status;
     /// Moves a caret to the nearest boundary to the left or right on its line. Stores the edge there in `*next`,
-    /// and 1 in `*moved`. The stored edge is an edge of the caret unit that was passed. At the end of the line,
-    /// stores 0 in `*moved`, and leaves `*next` unchanged. The caller then calls `hordguli_edge_at` for another
-    /// line, with column 0 for its left end, or SIZE_MAX for its right end. In a left-to-right document, the key
-    /// Right leads to the left end of the line below, and Left to the right end of the line above:
+    /// and 1 in `*moved`. The stored edge is an edge of the caret unit that was passed. If there is no such
+    /// boundary, stores 0 in `*moved`, and leaves `*next` unchanged. The caller then calls `hordguli_edge_at` for
+    /// another line, with column 0 for its left end, or SIZE_MAX for its right end. In a left-to-right document,
+    /// the key Right leads to the left end of the line below, and Left to the right end of the line above:
     ///
     /// ```c
     /// // Right
@@ -1325,8 +1325,9 @@ extern "C" {
         ends: *mut usize,
         cluster_count: *mut usize,
     ) -> hordguli_status;
-    /// Stores the script runs of a text of `count` characters (UAX #24), for fonts and shapers: the longest ranges of
-    /// characters of one script. To shape a row, split its directional runs (`hordguli_row_runs`) where a script run ends.
+    /// Stores the script runs of a text of `count` characters (UAX #24), for choosing fonts and for shaping: the
+    /// longest ranges of characters of one script. To shape a row, split its directional runs
+    /// (`hordguli_row_runs`) where a script run ends.
     ///   - A character has the script of its property Script, in the Unicode version that `hordguli_width_unicode_version`
     ///     returns. A private-use or unassigned character has the script Unknown (`Zzzz`).
     ///   - If the property is Common or Inherited, as for a space, a digit or a mark, the character has the script of the
@@ -1430,7 +1431,8 @@ extern "C" {
         count: usize,
         base: *mut u32,
     ) -> hordguli_status;
-    /// Stores in `levels` the level of each character before L1. NULL returns NO_ROOM, unless `count` is 0 (see BUFFERS).
+    /// Stores in `levels` the level of each character, before L1 is applied. NULL returns NO_ROOM, unless `count`
+    /// is 0 (see BUFFERS).
     ///
     /// Errors: NULL, OVERLAP, UNKNOWN_OPTION, CLOSED, NO_ROOM, NOT_A_CHARACTER, NO_MEMORY.
     ///

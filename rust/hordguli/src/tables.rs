@@ -29,7 +29,7 @@ impl Tables {
         Tables { handle }
     }
 
-    /// Opens the tables of Unicode 15.0 that the library contains. Reads no file.
+    /// Opens the built-in tables of Unicode 15.0. Reads no file.
     ///
     /// # Errors
     ///
@@ -38,7 +38,7 @@ impl Tables {
         TablesHandle::open_builtin().map(Self::new)
     }
 
-    /// Opens the tables of a version that the library contains. Reads no file.
+    /// Opens the built-in tables of a Unicode version. Reads no file.
     ///
     /// ```
     /// use hordguli::{Tables, UnicodeVersion};

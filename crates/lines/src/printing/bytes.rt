@@ -1,5 +1,5 @@
-//! Writes the bytes of a line to a sink as they are produced. Each function writes one part of the line.
-//! `before` is the number of bytes already written, and the returned byte count includes it.
+//! Writes the bytes of a line to a sink as they are produced. Each function named `write_..` writes one part
+//! of the line. `before` is the number of bytes already written, and the returned byte count includes it.
 ghost use Rattle.std.specs.Prelude.{◌≡◌, [], ◌∷◌, ◌++◌, ◌≤◌, ◌&&◌, IfOk, IfErr, if◌then◌else◌};
 ghost use Rattle.std.specs.Prelude.{◌+◌, ◌<◌, ℕ, take, codes};
 ghost use Rattle.std.specs.Prelude.{length, map, replicate, encode_utf8_all, slice_index};
@@ -300,7 +300,7 @@ fn write_shown_chars<W: Sink>(
     write_expanded(writer, before, line, print)
 }
 
-// Returns the number of characters that are printed in visual order.
+// Returns how many characters of a line are printed, if tabs are not replaced by spaces.
 fn ordered_len(line: &VisualLine<'_>, print: &Print) -> usize
     ensures { result ≡ length (ordered_chars print.now line.now) }
 {
@@ -421,7 +421,7 @@ fn write_cells<W: Sink>(
     }
 }
 
-// Returns the number of spaces before a line.
+// Returns the number of spaces that are printed to the left of a line.
 fn padding(line: &VisualLine<'_>, width: u32, print: &Print) -> usize
     ensures { replicate result 32 ≡ padding width print.now line.now }
 {
@@ -451,7 +451,7 @@ pub(crate) fn write_direction<W: Sink>(
     write_base(writer, before, print.basedir && line.is_first, line.base)
 }
 
-// Writes the base direction for a base level, if `asked` is true.
+// Writes `LTR` or `RTL` as a line, depending on the base level, if `asked` is true.
 pub(crate) fn write_base<W: Sink>(
     writer: &mut W,
     before: u64,
@@ -495,7 +495,7 @@ fn write_numbers<W: Sink, I: Integer>(
     write_part(writer, written, b"\n")
 }
 
-// Writes the visual position of each logical position.
+// Writes the visual position of each logical position as a line, if `print.ltov` is set.
 pub(crate) fn write_ltov<W: Sink>(
     writer: &mut W,
     before: u64,
@@ -514,7 +514,7 @@ pub(crate) fn write_ltov<W: Sink>(
     write_numbers(writer, before, print.ltov, line.ltov)
 }
 
-// Writes the logical position of each visual position.
+// Writes the logical position of each visual position as a line, if `print.vtol` is set.
 pub(crate) fn write_vtol<W: Sink>(
     writer: &mut W,
     before: u64,
@@ -533,7 +533,7 @@ pub(crate) fn write_vtol<W: Sink>(
     write_numbers(writer, before, print.vtol, line.vtol)
 }
 
-// Writes the level of each character.
+// Writes the level of each character as a line, if `print.levels` is set.
 pub(crate) fn write_levels<W: Sink>(
     writer: &mut W,
     before: u64,

@@ -52,7 +52,7 @@ impl Print {
     ghost use Rattle.lines.specs.Asked.{asks_places};
     ghost use Rattle.lines.specs.Printing.{skips_lines};
 
-    /// Returns whether nothing that depends on the lines is printed. The base direction may still be printed.
+    /// Returns whether at most the base direction is printed, which does not depend on the lines.
     pub fn skips_lines(&self) -> bool
         ensures { result ≡ skips_lines self.now }
     {

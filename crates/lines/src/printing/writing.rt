@@ -173,8 +173,7 @@ fn write_part<W: Sink>(
     )
 }
 
-// Applies L1 to a line, and writes its levels to the front of `levels`. Returns `true` only if all levels are
-// then 0.
+// Writes the levels of a line after L1 to the front of `levels`. Returns `true` only if all of them are 0.
 fn reset_front(line: &LogicalLine<'_>, levels: &mut [u8]) -> bool
     requires line { IsLookedUp line.now.text }
     requires shown { line.now.shown.len ≤ length line.now.text.characters.now }
@@ -189,7 +188,7 @@ fn reset_front(line: &LogicalLine<'_>, levels: &mut [u8]) -> bool
 }
 
 // Applies L2, L3 and L4 to the shown part of a line. The line's levels after L1 are at the front of `levels`.
-// Writes the position maps, one after the other, and the characters to the front of the other lists.
+// Writes `ltov` and then `vtol` to the front of `maps`, and the characters to the front of `chars`.
 fn order_front(
     line: &LogicalLine<'_>,
     is_flat: bool,
@@ -241,8 +240,8 @@ fn chars_front(line: &LogicalLine<'_>, levels: &[u8], places: &mut [u32], chars:
     show_chars(&line.text, &levels[..n], &mut places[..n], &mut chars[..n]);
 }
 
-// Writes a line whose levels and characters are at the front of the buffers, and whose position maps are at
-// the front of `visual.maps`, one after the other.
+// Writes a line whose levels and characters are at the front of the buffers. Its `ltov` and then its `vtol`
+// are at the front of `visual.maps`.
 fn write_visual<W: Sink>(
     writer: &mut W,
     before: u64,
@@ -285,7 +284,8 @@ fn write_visual<W: Sink>(
     view.write_after(writer, before, form.width, form.print)
 }
 
-// Writes a line without its position maps, given its characters in visual order.
+// Writes a line for which the position maps are not needed, given its levels and its characters in visual
+// order.
 fn write_ordered<W: Sink>(
     writer: &mut W,
     before: u64,

@@ -86,8 +86,8 @@ fn close(
     Ok(())
 }
 
-// Returns the newest opening bracket that a closing bracket matches, or `None` if there is none: the number
-// of brackets below it on the stack, and its index in the text.
+// Finds the newest opening bracket that a closing bracket matches. Returns the number of brackets below it on
+// the stack, and its index in the text, or `None` if there is none.
 fn newest(openers: &[Opener], c: char) -> Option<(usize, usize)> {
     let mut newest = None;
     for (held, opener) in openers.iter().enumerate() {
@@ -116,7 +116,7 @@ fn closer_of(pairs: &[Pair], opener: usize) -> Option<usize> {
     None
 }
 
-// Sets the types of a pair, if the pair has a direction.
+// Sets the types of a pair's brackets, and of the marks after them, if the pair has a direction.
 fn set_pair(
     types: &mut [BidiClass],
     classes: &[BidiClass],
@@ -130,9 +130,9 @@ fn set_pair(
     }
 }
 
-// Returns the direction of a pair. If the pair contains a strong type of the embedding direction, the pair
-// gets that direction. Otherwise, if the pair contains a strong type of the other direction, the pair gets
-// the direction of the nearest strong type before it.
+// Returns the direction of a pair, or `None` if it contains no strong type. If it contains a strong type of
+// the embedding direction, it gets that direction. Otherwise, it gets the direction of the nearest strong
+// type before the pair, or the embedding direction if there is none.
 fn pair_direction(
     types: &[BidiClass],
     opener: usize,
@@ -166,7 +166,7 @@ fn direction_before(types: &[BidiClass], place: usize, other: BidiClass) -> Bidi
     before
 }
 
-// Returns the direction of a strong type. Numbers count as R.
+// Returns the direction of a strong type, or `None` for any other type. Numbers count as R.
 fn strong_direction(class: BidiClass) -> Option<BidiClass> {
     match class {
         BidiClass::L => Some(BidiClass::L),

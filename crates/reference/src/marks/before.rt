@@ -27,7 +27,7 @@ pub struct Before {
 }
 
 impl Before {
-    /// Returns the state before the second position of a text that begins with this character.
+    /// Returns the state after the first character of a text.
     pub fn start(first: &Character) -> Before {
         Before::begun(first, None, None, false)
     }

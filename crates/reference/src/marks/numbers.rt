@@ -1,4 +1,5 @@
-//! Whole numbers (UAX #14, LB25 in its second form). Each base is tried as the start of a number.
+//! Whole numbers (UAX #14, LB25 with a regular expression for numbers). Each base is tried as the start of a
+//! number.
 
 use crate::marks::classes::{CL, CP, HY, IS, NU, OP, PO, PR, SY, has};
 use ucd::LineClass;

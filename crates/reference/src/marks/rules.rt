@@ -75,7 +75,7 @@ impl Right {
     }
 }
 
-// Returns the mark of the first rule whose conditions hold.
+// Returns the mark of the first rule whose conditions hold, or `None` if there is none.
 fn first_mark(rules: &[Rule], before: &Before, after: &Character) -> Option<Mark> {
     for Rule(left, right, mark) in rules {
         if left.holds(before) && right.holds(after) {

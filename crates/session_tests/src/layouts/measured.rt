@@ -135,8 +135,8 @@ static WIDE: [Row; 4] = [
     },
 ];
 
-// With tab stops, a tab moves to the next multiple of its own advance, counted from the start of its line,
-// and a tab of advance 0 has no width.
+// With tab stops, a tab moves to the next multiple of its own advance, counted from the start of its line. A
+// tab of advance 0 has no width.
 static TABS: [Row; 7] = [
     Row {
         text: "a\tb",
@@ -214,8 +214,8 @@ static SPACE_ROWS: [Row; 3] = [
     },
 ];
 
-// Lays out a measured text that is one paragraph, at a width that is not 0. Returns `None` after an
-// allocation failure.
+// Lays out a measured text. Returns `None` after an allocation failure, and if the text is not one paragraph,
+// the advances do not fit the text, or the width is 0.
 fn lay_out_once(
     alloc: Global,
     engine: &mut Engine,
@@ -326,7 +326,8 @@ fn measured_spaces_are_shown_as_far_as_they_fit(rt: HostRuntime) -> Result<(), F
     Ok(())
 }
 
-// Lays out a paragraph at width 1, and returns whether it has the lines of its row after `exchanges`.
+// Lays out a paragraph at width 1, and exchanges its lines for those at the row's width. Returns whether the
+// new lines are the row's.
 fn is_refilled(alloc: Global, engine: &mut Engine, row: &Row) -> Result<bool, Fail> {
     let mut laid = lay_out(alloc, engine, row.text, row.advances, 1)?;
     let result = exchanges(alloc, engine, &mut laid, row);
@@ -343,7 +344,7 @@ fn exchanges(alloc: Global, engine: &mut Engine, laid: &mut Laid, row: &Row) -> 
     Ok(is_right(laid, row))
 }
 
-// Finds the lines at a width, which must not be 0. Tries again after an allocation failure.
+// Finds the lines at a width, and tries again after an allocation failure. Fails if the width is 0.
 fn refill(alloc: Global, engine: &mut Engine, laid: &Laid, width: u32) -> Result<Fill, Fail>
     requires { IsLaidOut (with_advances (rules_of engine.old) laid.now.advances) laid.now }
     ensures { IfOk result (AreLinesOf (with_advances (rules_of engine.old) laid.now.advances) laid.now.text) }
@@ -357,7 +358,8 @@ fn refill(alloc: Global, engine: &mut Engine, laid: &Laid, width: u32) -> Result
     }
 }
 
-// Lays out a paragraph at width 1, and returns whether it has the lines of its row after `reflow`.
+// Lays out a paragraph at width 1, and overwrites its lines with those at the row's width. Returns whether
+// the new lines are the row's. Fails if the row's width is 0.
 fn is_reflowed(alloc: Global, engine: &mut Engine, row: &Row) -> Result<bool, Fail> {
     if row.width == 0 {
         return Err(Fail::new("width 0"));
@@ -379,7 +381,7 @@ fn change_each(alloc: Global, engine: &mut Engine, rows: &[Row]) -> Result<bool,
     Ok(all_right)
 }
 
-// Returns whether each paragraph has the lines that its row lists after a change of its width.
+// Returns whether each paragraph has the lines of its row after its width is changed from 1 to the row's.
 fn all_changed(alloc: Global, options: Options, rows: &[Row]) -> Result<bool, Fail> {
     let mut engine = engine(alloc, &FILES, options)?;
     let result = change_each(alloc, &mut engine, rows);

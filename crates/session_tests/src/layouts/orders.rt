@@ -1,4 +1,5 @@
-//! Tests that marks come after their bases with the option `reordernsm`, and before them without it.
+//! Tests that, at odd levels, marks come after their bases with the option `reordernsm`, and before them
+//! without it.
 use super::lay_out;
 use super::printed::{ALL, PLAIN, UNMIRRORED, are_printed};
 use crate::files::{FILES, engine};
@@ -37,8 +38,8 @@ type Row = (
     &'static [u32],
 );
 
-// Texts, and their visual order with the option. The last two have a mark at another level than its base, and
-// a mark after a space at the end of the line.
+// Texts, and their visual order with the option. The last two have a mark at a different level from its base,
+// and a mark after a space at the end of the line.
 static READ_ROWS: [Row; 7] = [
     (
         "\u{5D0}\u{300}\u{5D1}",
@@ -84,7 +85,7 @@ static READ_ROWS: [Row; 7] = [
     ),
 ];
 
-// The texts above whose visual order is different without the option, and that order.
+// The texts above whose visual order is different without the option, and their order without it.
 static REVERSED_ROWS: [Row; 5] = [
     (
         "\u{5D0}\u{300}\u{5D1}",

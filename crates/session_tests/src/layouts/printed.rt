@@ -46,8 +46,8 @@ const DIRECTION: Print = Print {
     ..NOTHING
 };
 
-// A paragraph, a width, the print options, and the printed bytes. Some paragraphs are shorter than the one
-// before, whose lists the engine reuses.
+// A paragraph, a width, the print options, and the printed bytes. In some rows, the engine reuses the
+// lists of the longer paragraph before.
 static ROWS: [(&str, u16, Print, &str); 10] = [
     ("abcdefgh ij kl", 3, PLAIN, "abc\ndef\ngh\nij\nkl\n"),
     (
@@ -128,8 +128,8 @@ pub(super) fn is_written(laid: &Laid, width: u16, print: &Print, bytes: &[u8]) -
         && holds(&at_once, bytes)
 }
 
-// Returns whether a paragraph is written correctly into a buffer of `room` bytes, up to the end of the
-// buffer.
+// Writes a paragraph to a buffer of `room` bytes. Returns whether the buffer has as many of the expected
+// bytes as fit, and the call fails exactly if not all of them fit.
 fn fills(
     alloc: Global,
     engine: &mut Engine,

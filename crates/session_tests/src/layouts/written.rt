@@ -6,8 +6,8 @@ use lines::{Engine, Laid, Print, VisualLine, WriteFault};
 use std::alloc::Global;
 use std::test::Fail;
 
-// Returns whether exactly these bytes are written, and writing to a smaller buffer fails once the buffer is
-// full.
+// Returns whether exactly these bytes are written to a buffer that is large enough, and writing to a smaller
+// buffer fails once it is full.
 fn writes(line: &VisualLine<'_>, width: u32, print: &Print, bytes: &[u8]) -> bool {
     let mut all_right = bytes.len() <= 64;
     for room in 0..65usize {

@@ -1,5 +1,4 @@
-//! Tests of the characters at columns, of carets, of the columns of lines, of grapheme clusters, of words and
-//! of reasons.
+//! Tests of hits, carets, the columns of lines, grapheme clusters, words, and reasons.
 use super::{Check, Pair, check_in_tree, renew};
 use breaks::LineRule;
 use session::{Caret, CharReasons, Cluster, EditFault, Hit, Kept, Session, Word};
@@ -106,8 +105,8 @@ fn check_carets<S: ParagraphStore<Kept> + Drop, T: ParagraphStore<Kept> + Drop>(
     Ok(())
 }
 
-// Returns whether `columns_left` of the only line returns these values for positions 0, 1 and 9, and the line
-// has this padding.
+// Replaces the text. Returns whether its only line has this padding, whether `columns_left` returns these
+// values for visual positions 0, 1 and 9, and whether `covering` is right at both ends of the line.
 fn has_columns<S: ParagraphStore<Kept>>(
     session: &mut Session<S>,
     text: &str,
@@ -157,7 +156,7 @@ static CLUSTERS: [ClusterRow<'_>; 17] = [
     ("ab\u{d558}\u{11ab}c", 3, Some((2, 4))),
 ];
 
-// Returns a cluster, and tries again after an allocation failure.
+// Returns the cluster at a position, and tries again after an allocation failure.
 fn cluster<S: ParagraphStore<Kept>>(
     session: &Session<S>,
     pos: usize,
@@ -198,7 +197,7 @@ static WORDS: [WordRow<'_>; 8] = [
     ("\u{5e9}\u{5dc}!", 2, Some((2, 3, false))),
 ];
 
-// Returns a word, and tries again after an allocation failure.
+// Returns the word at a position, and tries again after an allocation failure.
 fn word<S: ParagraphStore<Kept>>(
     session: &Session<S>,
     pos: usize,

@@ -132,7 +132,7 @@ impl Reference {
         by_break.or(by_cluster).or(least).unwrap_or((end, shown))
     }
 
-    // Returns whether a session has the lines of the text.
+    // Returns whether a session has the text, the advances and the lines of the reference implementation.
     fn has_lines(&self, session: &Session<TreeStore<Kept>>) -> bool {
         let (mut n, mut first) = (0usize, 0usize);
         let mut all = true;
@@ -161,7 +161,7 @@ impl Reference {
         all & (n == session.line_count()) & (first == self.text.len())
     }
 
-    // Returns the text and the advances that a change leads to if it is not refused.
+    // Returns the text, the advances and the width after a change that is not refused.
     fn after(&self, alloc: Global, change: Change<'_>) -> Result<Reference, AllocError> {
         let (pos, count, text): (usize, usize, &[char]) = match change {
             Change::Insert(pos, piece) => (pos, 0, piece),
@@ -185,7 +185,8 @@ impl Reference {
         })
     }
 
-    // Returns why a change is refused, given the text and the advances after it.
+    // Returns why a session must refuse a change, or `None` if it must not. `after` is the state to which the
+    // change leads.
     fn refusal(&self, change: Change<'_>, after: &Reference) -> Option<Refusal> {
         let end = match change {
             Change::Insert(pos, _) => pos,
@@ -262,7 +263,7 @@ fn make(
     })
 }
 
-// Returns advances that are all 0, all equal, large, or up to 20.
+// Returns fewer than 60 advances, which are all 0, all equal, large, or below 20.
 fn random_advances(alloc: Global, numbers: &mut Numbers) -> Result<Vec<u32>, AllocError> {
     let kind = numbers.below(8);
     let equal = numbers.below(30);
@@ -305,7 +306,7 @@ fn random_change<'a>(
     }
 }
 
-// Makes the next random change.
+// Makes the next random change, and compares its result with the reference implementation.
 fn check_next(
     rt: &impl Abort,
     alloc: Global,

@@ -69,7 +69,8 @@ fn are_lines<S: ParagraphStore<Kept>>(
     }
 }
 
-// A position and a count; the characters of this range in the first paragraph, if the range exists.
+// A position and a count; the characters of this range, up to the end of the paragraph that contains the
+// position, if the range exists.
 type Part<'a> = (usize, usize, Option<&'a [char]>);
 
 pub(super) static PARTS: [Part<'_>; 7] = [

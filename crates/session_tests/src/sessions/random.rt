@@ -138,7 +138,7 @@ fn bounds<T: ParagraphStore<Kept>>(old: &Session<T>, edit: Edit<'_>) -> [u64; 2]
     }
 }
 
-// Returns the damage of an edit, given the sessions before and after it.
+// Returns the damage that an edit must report, given the sessions before and after it.
 fn damage_of<S: ParagraphStore<Kept>, T: ParagraphStore<Kept>>(
     old: &Session<T>,
     new: &Session<S>,
