@@ -36,7 +36,7 @@ static ptrdiff_t copied(const char *text, uint8_t *buf, size_t length) {
 
 /* Copies argument i to the start of buf, without its final NUL. Argument 0 is the command's name.
  *
- *     returns    its length; -1 if there is no such argument; -2 if it does not fit, and then buf is full
+ *     returns    its length; -1 if there is no such argument; -2 if it does not fit; buf then holds its first length bytes
  *
  * Leaves the bytes of buf after the argument unchanged. */
 ptrdiff_t rattle_arg(size_t i, uint8_t *buf, size_t length) {
@@ -46,7 +46,7 @@ ptrdiff_t rattle_arg(size_t i, uint8_t *buf, size_t length) {
 /* Copies the value of an environment variable to the start of buf, without its final NUL.
  *
  *     requires ended    name has 4,096 bytes, and the last one is NUL
- *     returns           the value's length; -1 if there is no such variable; -2 if it does not fit, and then buf is full
+ *     returns           the value's length; -1 if there is no such variable; -2 if it does not fit; buf then holds its first length bytes
  *
  * Leaves the bytes of buf after the value unchanged. */
 ptrdiff_t rattle_env(const uint8_t *name, uint8_t *buf, size_t length) {
@@ -55,7 +55,7 @@ ptrdiff_t rattle_env(const uint8_t *name, uint8_t *buf, size_t length) {
 
 /* Copies entry i of the environment, such as NAME=value, to the start of buf, without its final NUL.
  *
- *     returns    its length; -1 if there is no such entry; -2 if it does not fit, and then buf is full
+ *     returns    its length; -1 if there is no such entry; -2 if it does not fit; buf then holds its first length bytes
  *
  * Leaves the bytes of buf after the entry unchanged. */
 ptrdiff_t rattle_env_at(size_t i, uint8_t *buf, size_t length) {

@@ -141,8 +141,8 @@ static inline int reference_caret(hordguli_edge edge, hordguli_caret *caret) {
     return 1;
 }
 
-/* Finds the nearest unit end to the left or right of a column. Stores it as an edge of that unit, which the
- * step passes. Returns 0 if there is no such end. */
+/* Finds the nearest unit end to the left or right of a column. Stores the edge of the unit that the step crosses, not
+ * that of the unit beyond. Returns 0 if there is no such end. */
 static inline int reference_step(size_t line, size_t column, uint32_t direction, hordguli_edge *next) {
     const unit *nearest = NULL;
     for (const unit *u = units; u < units + unit_count; u++) {

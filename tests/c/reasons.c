@@ -30,7 +30,7 @@ static int is_initiator(uint8_t class) { return IS_IN(class, BIDI(LRI), BIDI(RLI
 
 static int is_strong(uint8_t class) { return IS_IN(class, BIDI(L), BIDI(R), BIDI(EN), BIDI(AN)); }
 
-/* Returns the direction, L or R, of a strong class or a number for N0 to N2. */
+/* Returns the direction (L or R) of a strong class, EN or AN. EN and AN count as R, as in N0 to N2. */
 static uint8_t direction_of(uint8_t class) { return class == BIDI(L) ? BIDI(L) : BIDI(R); }
 
 static uint8_t direction_of_level(uint8_t level) { return level % 2 == 0 ? BIDI(L) : BIDI(R); }

@@ -15,9 +15,11 @@ static const uint32_t letters[LETTERS] = {
     0x200D, 0x1F3FD, 0xFE0F, 0x1F1E9, 0x1F1EA, 0x600, 0x903, 0x915, 0x94D, 0x1100, 0x1161, 0x11A8, '\r', '\n',
 };
 
-/* Returns the grapheme class of a letter (UAX #29): a Return, a line Feed, a Control, an Extending character, a ZWJ (J),
- * a Prepended or a Spacing mark, the parts of a Hangul syllable (1, 2, 3), a regional Indicator, a Pictograph, or a virama and
- * a consonant that it joins (V, K); or O for others. */
+/* Returns a code for the Grapheme_Cluster_Break class of a character (UAX #29):
+ *
+ *     R CR, F LF, C Control, E Extend, J ZWJ, P Prepend, S SpacingMark
+ *     1 2 3 L, V and T (Hangul), I Regional_Indicator, X Extended_Pictographic
+ *     V virama, K consonant that a virama joins (GB9c), O any other */
 static char cluster_class(uint32_t c) {
     static const struct { uint32_t c; char class; } known[] = {
         {'\r', 'R'}, {'\n', 'F'}, {'\t', 'C'}, {0xAD, 'C'}, {0x200B, 'C'}, {0x200F, 'C'}, {0x2028, 'C'}, {0x200D, 'J'},
