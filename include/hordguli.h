@@ -192,7 +192,7 @@ const char *hordguli_status_text(hordguli_status status);
 /* ---- Version ---- */
 
 /* The version of this header. A release that adds functions, options or statuses raises the minor version.
- * `Since` in a comment is the first version with the function, option or status. A program can test for the
+ * `Since` gives the first version that has the function, option or status. A program can test for the
  * functions of 0.6:
  *
  *     #if HORDGULI_VERSION_MAJOR > 0 || HORDGULI_VERSION_MINOR >= 6 */
@@ -348,7 +348,7 @@ typedef struct hordguli_bytes {
 #define HORDGULI_CAUSE_VALUE 5         /* a value that the file does not allow */
 #define HORDGULI_CAUSE_NAMED_BEFORE 6  /* an earlier line names one of its characters */
 
-/* Why bytes are not an image. If several causes apply, the first in this order is reported. But if the header
+/* Why an image is invalid. If several causes apply, the first in this order is reported. But if the header
  * is complete, TRUNCATED comes after VERSION. */
 #define HORDGULI_CAUSE_TRUNCATED 8     /* fewer bytes than a header has, or than its counts state */
 #define HORDGULI_CAUSE_MAGIC 9         /* the first bytes are not those of an image */
@@ -434,7 +434,7 @@ void hordguli_tables_close(hordguli_tables *tables);
 /* ---- Whole texts ---- */
 
 /* Lays out a text, and writes its lines to a buffer, as UTF-8. Stores their length, in bytes, in `*written`.
- * NULL with capacity 0 returns NO_ROOM if there is anything to write (see BUFFERS). The bytes are those that
+ * With NULL and capacity 0, returns NO_ROOM if there is anything to write (see BUFFERS). The bytes are those that
  * `hordguli_lines_utf8` writes for all lines of a session with these `options`, this `width` and this text.
  * `print` is as in that function. For example, to lay out a line of a log:
  *
@@ -671,7 +671,7 @@ typedef struct hordguli_run {
 /* Stores the directional runs of a line's shown part, from left to right, for shaping text: the longest
  * ranges of characters at one level after L1. The runs do not depend on HORDGULI_REORDER_NSM or
  * HORDGULI_REORDER_CLUSTERS, which move characters only inside runs. The number of runs is stored in
- * `*count`, and the runs in an array of `capacity` elements. NULL with capacity 0 returns NO_ROOM if there
+ * `*count`, and the runs in an array of `capacity` elements. With NULL and capacity 0, returns NO_ROOM if there
  * are runs (see BUFFERS). Fails with OUT_OF_RANGE if the line does not exist. To read the characters of a run
  * in logical order:
  *
@@ -684,7 +684,7 @@ typedef struct hordguli_run {
 hordguli_status hordguli_runs(hordguli_session *session, size_t line, size_t capacity, hordguli_run *runs,
                               size_t *count);
 
-/* Writes `count` lines, starting with line `first`, to a buffer, as UTF-8. NULL with capacity 0 returns NO_ROOM if
+/* Writes `count` lines, starting with line `first`, to a buffer, as UTF-8. With NULL and capacity 0, returns NO_ROOM if
  * there is anything to write (see BUFFERS). `print` selects what is written for each line, in the order VISUAL,
  * BASEDIR, LTOV, VTOL, LEVELS. Each of these items ends with U+000A. Numbers are decimal, separated by
  * spaces. For example, to write the lines that an edit replaced:
@@ -698,7 +698,7 @@ hordguli_status hordguli_runs(hordguli_session *session, size_t line, size_t cap
 hordguli_status hordguli_lines_utf8(hordguli_session *session, size_t first, size_t count, uint32_t print,
                                     size_t capacity, char *buffer, size_t *length);
 
-/* Writes `count` characters, starting at `pos`, to a buffer, as UTF-8. NULL with capacity 0 returns NO_ROOM, unless
+/* Writes `count` characters, starting at `pos`, to a buffer, as UTF-8. With NULL and capacity 0, returns NO_ROOM, unless
  * `count` is 0 (see BUFFERS). NO_MEMORY comes before NO_ROOM, as in `hordguli_lines_utf8`.
  * Errors: NULL, OVERLAP, CLOSED, OUT_OF_RANGE, NO_MEMORY, NO_ROOM.
  * Cost: as for `hordguli_lines_utf8`. */
@@ -706,7 +706,7 @@ hordguli_status hordguli_text(hordguli_session *session, size_t pos, size_t coun
                               size_t *length);
 
 /* Stores `count` characters, starting at `pos`, in an array of `capacity` elements, in logical order and not mirrored,
- * as a shaper needs them. Stores `count` in `*length`. NULL with capacity 0 returns NO_ROOM, unless `count`
+ * as a shaper needs them. Stores `count` in `*length`. With NULL and capacity 0, returns NO_ROOM, unless `count`
  * is 0 (see BUFFERS).
  * Errors: NULL, OVERLAP, CLOSED, OUT_OF_RANGE, NO_ROOM.
  * Cost: O(log n) per paragraph, plus O(count).
@@ -1029,7 +1029,7 @@ hordguli_status hordguli_nearest_edge(hordguli_session *session, size_t line, si
 hordguli_status hordguli_line_edges(hordguli_session *session, size_t line, hordguli_edge *first, hordguli_edge *last);
 
 /* Stores the ends of a line's grapheme clusters, counted from the start of the line, in an array of `capacity`
- * elements, and their number in `*count`. NULL with capacity 0 returns NO_ROOM (see BUFFERS). The last end is the
+ * elements, and their number in `*count`. With NULL and capacity 0, returns NO_ROOM (see BUFFERS). The last end is the
  * length of the line, even if a cluster continues on the next line. Fails with OUT_OF_RANGE if the line does not exist.
  *
  * NO_MEMORY comes before NO_ROOM.
@@ -1042,7 +1042,7 @@ hordguli_status hordguli_line_clusters(hordguli_session *session, size_t line, s
 /* ---- Clusters and scripts ---- */
 
 /* Stores the ends of the grapheme clusters in a text of `count` characters, in an array of `capacity` elements, and
- * their number in `*cluster_count`. NULL with capacity 0 returns NO_ROOM, unless `count` is 0 (see BUFFERS). The first
+ * their number in `*cluster_count`. With NULL and capacity 0, returns NO_ROOM, unless `count` is 0 (see BUFFERS). The first
  * cluster starts at 0, each later one at the end of the cluster before it, and the last one ends at `count`. No cluster
  * continues after a separator, so the clusters are those of a session with this text (`hordguli_cluster_at`), even for
  * a text of several paragraphs. NO_MEMORY comes before NO_ROOM.
@@ -1075,7 +1075,7 @@ typedef struct hordguli_script_run {
  *     nested, only the innermost 63 are matched.
  *
  * The property Script_Extensions is not used. The number of runs is stored in `*run_count`, and the runs in an array of
- * `capacity` elements. NULL with capacity 0 returns NO_ROOM, unless `count` is 0 (see BUFFERS). NO_MEMORY comes before
+ * `capacity` elements. With NULL and capacity 0, returns NO_ROOM, unless `count` is 0 (see BUFFERS). NO_MEMORY comes before
  * NO_ROOM.
  * Errors: NULL, OVERLAP, CLOSED, NOT_A_CHARACTER, NO_MEMORY, NO_ROOM.
  * Cost: time and memory proportional to `count`.
@@ -1117,7 +1117,7 @@ hordguli_status hordguli_row(hordguli_tables *tables, uint32_t options, uint32_t
 
 /* Stores the directional runs of a row, from left to right, for shaping text (see `hordguli_runs`). Positions
  * count from the start of the row. `base`, `characters` and `levels` are as in `hordguli_row`. The number of
- * runs is stored in `*run_count`, and the runs in an array of `capacity` elements. NULL with capacity 0
+ * runs is stored in `*run_count`, and the runs in an array of `capacity` elements. With NULL and capacity 0,
  * returns NO_ROOM, unless `count` is 0 (see BUFFERS). NO_MEMORY comes before NO_ROOM, because memory for the
  * levels after L1 is allocated first.
  * Errors: NULL, OVERLAP, CLOSED, NOT_A_CHARACTER, OUT_OF_RANGE, NO_MEMORY, NO_ROOM.

@@ -16,9 +16,9 @@
  *   - two changes of the width here
  *   - two changes of the width in Pango, until the lines are known
  *   - an edit here, with advances that are known
- *   - an edit here, where HarfBuzz shapes, with Pango's fonts, only the text between the spaces around the
- *     changed characters, levels, fonts and scripts
- *   - an edit here, where HarfBuzz shapes the whole paragraph
+ *   - an edit here, after which HarfBuzz, with Pango's fonts, shapes only the changed text, up to the nearest space on
+ *     both sides. Text is changed if its characters, levels, fonts or scripts are
+ *   - an edit here, after which HarfBuzz shapes the whole paragraph
  *   - an edit in Pango, which shapes the whole paragraph, until the lines are known */
 #include "test.h"
 
@@ -45,7 +45,7 @@ static hb_font_t *fonts[MOST_FONTS]; /* of Pango, first the font of the descript
 static size_t font_count;
 static hb_buffer_t *buffer;
 
-/* What a caller that shapes text itself keeps: its characters, and their styles and advances */
+/* State of a caller that does its own shaping: the text's characters, styles and advances */
 static hb_codepoint_t characters[MOST];
 static Style styles[MOST];
 static uint32_t shaped[MOST];

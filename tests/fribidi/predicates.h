@@ -79,7 +79,7 @@ static int pair_over_isolates(const input *one, int least) {
 }
 
 /* BD13: each isolate is a separate sequence, and an FSI takes its direction from its own isolate (X5c). FriBidi treats
- * all isolates of a depth as one sequence. */
+ * all isolates at the same depth as one sequence. */
 static int joined(const input *one, int greatest) {
     return changes(one, AS_ONE, greatest) || changes(one, LATER, greatest) || changes(one, AS_ONE | LATER, greatest);
 }

@@ -1,7 +1,7 @@
 /* Finds the levels of UAX #9, rule by rule, for the predicates. Each bit of `ways` selects a deviation of
  * FriBidi:
  *
- * - AS_ONE: all isolates of a depth form one sequence, in logical order. Brackets are paired across its runs, except across adjacent runs.
+ * - AS_ONE: all isolates at the same depth form one sequence, in logical order. Brackets are paired across its runs, except across adjacent runs.
  *   A pair takes the level of its opening bracket. A mark at the start of a later isolate becomes ON, so the characters after it do not
  *   get the last type of the previous isolate. After an EN that W2 changes, the mark becomes AN. If an override changes the initiator, the mark
  *   stays NSM and counts as L.

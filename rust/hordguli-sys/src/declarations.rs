@@ -605,7 +605,7 @@ extern "C" {
     /// Closes the handle. Safe on a closed handle or NULL. The tables are freed once no open session uses them.
     pub fn hordguli_tables_close(tables: *mut hordguli_tables);
     /// Lays out a text, and writes its lines to a buffer, as UTF-8. Stores their length, in bytes, in `*written`.
-    /// NULL with capacity 0 returns NO_ROOM if there is anything to write (see BUFFERS). The bytes are those that
+    /// With NULL and capacity 0, returns NO_ROOM if there is anything to write (see BUFFERS). The bytes are those that
     /// `hordguli_lines_utf8` writes for all lines of a session with these `options`, this `width` and this text.
     /// `print` is as in that function. For example, to lay out a line of a log:
     ///
@@ -891,7 +891,7 @@ extern "C" {
     /// Stores the directional runs of a line's shown part, from left to right, for shaping text: the longest
     /// ranges of characters at one level after L1. The runs do not depend on HORDGULI_REORDER_NSM or
     /// HORDGULI_REORDER_CLUSTERS, which move characters only inside runs. The number of runs is stored in
-    /// `*count`, and the runs in an array of `capacity` elements. NULL with capacity 0 returns NO_ROOM if there
+    /// `*count`, and the runs in an array of `capacity` elements. With NULL and capacity 0, returns NO_ROOM if there
     /// are runs (see BUFFERS). Fails with OUT_OF_RANGE if the line does not exist. To read the characters of a run
     /// in logical order:
     ///
@@ -912,7 +912,7 @@ extern "C" {
         runs: *mut hordguli_run,
         count: *mut usize,
     ) -> hordguli_status;
-    /// Writes `count` lines, starting with line `first`, to a buffer, as UTF-8. NULL with capacity 0 returns NO_ROOM if
+    /// Writes `count` lines, starting with line `first`, to a buffer, as UTF-8. With NULL and capacity 0, returns NO_ROOM if
     /// there is anything to write (see BUFFERS). `print` selects what is written for each line, in the order VISUAL,
     /// BASEDIR, LTOV, VTOL, LEVELS. Each of these items ends with U+000A. Numbers are decimal, separated by
     /// spaces. For example, to write the lines that an edit replaced:
@@ -936,7 +936,7 @@ extern "C" {
         buffer: *mut c_char,
         length: *mut usize,
     ) -> hordguli_status;
-    /// Writes `count` characters, starting at `pos`, to a buffer, as UTF-8. NULL with capacity 0 returns NO_ROOM, unless
+    /// Writes `count` characters, starting at `pos`, to a buffer, as UTF-8. With NULL and capacity 0, returns NO_ROOM, unless
     /// `count` is 0 (see BUFFERS). NO_MEMORY comes before NO_ROOM, as in `hordguli_lines_utf8`.
     ///
     /// Errors: NULL, OVERLAP, CLOSED, OUT_OF_RANGE, NO_MEMORY, NO_ROOM.
@@ -951,7 +951,7 @@ extern "C" {
         length: *mut usize,
     ) -> hordguli_status;
     /// Stores `count` characters, starting at `pos`, in an array of `capacity` elements, in logical order and not mirrored,
-    /// as a shaper needs them. Stores `count` in `*length`. NULL with capacity 0 returns NO_ROOM, unless `count`
+    /// as a shaper needs them. Stores `count` in `*length`. With NULL and capacity 0, returns NO_ROOM, unless `count`
     /// is 0 (see BUFFERS).
     ///
     /// Errors: NULL, OVERLAP, CLOSED, OUT_OF_RANGE, NO_ROOM.
@@ -1290,7 +1290,7 @@ extern "C" {
         last: *mut hordguli_edge,
     ) -> hordguli_status;
     /// Stores the ends of a line's grapheme clusters, counted from the start of the line, in an array of `capacity`
-    /// elements, and their number in `*count`. NULL with capacity 0 returns NO_ROOM (see BUFFERS). The last end is the
+    /// elements, and their number in `*count`. With NULL and capacity 0, returns NO_ROOM (see BUFFERS). The last end is the
     /// length of the line, even if a cluster continues on the next line. Fails with OUT_OF_RANGE if the line does not exist.
     ///
     /// NO_MEMORY comes before NO_ROOM.
@@ -1308,7 +1308,7 @@ extern "C" {
         count: *mut usize,
     ) -> hordguli_status;
     /// Stores the ends of the grapheme clusters in a text of `count` characters, in an array of `capacity` elements, and
-    /// their number in `*cluster_count`. NULL with capacity 0 returns NO_ROOM, unless `count` is 0 (see BUFFERS). The first
+    /// their number in `*cluster_count`. With NULL and capacity 0, returns NO_ROOM, unless `count` is 0 (see BUFFERS). The first
     /// cluster starts at 0, each later one at the end of the cluster before it, and the last one ends at `count`. No cluster
     /// continues after a separator, so the clusters are those of a session with this text (`hordguli_cluster_at`), even for
     /// a text of several paragraphs. NO_MEMORY comes before NO_ROOM.
@@ -1338,7 +1338,7 @@ extern "C" {
     ///     nested, only the innermost 63 are matched.
     ///
     /// The property Script_Extensions is not used. The number of runs is stored in `*run_count`, and the runs in an array of
-    /// `capacity` elements. NULL with capacity 0 returns NO_ROOM, unless `count` is 0 (see BUFFERS). NO_MEMORY comes before
+    /// `capacity` elements. With NULL and capacity 0, returns NO_ROOM, unless `count` is 0 (see BUFFERS). NO_MEMORY comes before
     /// NO_ROOM.
     ///
     /// Errors: NULL, OVERLAP, CLOSED, NOT_A_CHARACTER, NO_MEMORY, NO_ROOM.
@@ -1400,7 +1400,7 @@ extern "C" {
     ) -> hordguli_status;
     /// Stores the directional runs of a row, from left to right, for shaping text (see `hordguli_runs`). Positions
     /// count from the start of the row. `base`, `characters` and `levels` are as in `hordguli_row`. The number of
-    /// runs is stored in `*run_count`, and the runs in an array of `capacity` elements. NULL with capacity 0
+    /// runs is stored in `*run_count`, and the runs in an array of `capacity` elements. With NULL and capacity 0,
     /// returns NO_ROOM, unless `count` is 0 (see BUFFERS). NO_MEMORY comes before NO_ROOM, because memory for the
     /// levels after L1 is allocated first.
     ///
