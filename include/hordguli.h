@@ -698,8 +698,8 @@ hordguli_status hordguli_runs(hordguli_session *session, size_t line, size_t cap
 hordguli_status hordguli_lines_utf8(hordguli_session *session, size_t first, size_t count, uint32_t print,
                                     size_t capacity, char *buffer, size_t *length);
 
-/* Writes `count` characters, starting at `pos`, to a buffer, as UTF-8. With NULL and capacity 0, returns NO_ROOM, unless
- * `count` is 0 (see BUFFERS). NO_MEMORY comes before NO_ROOM, as in `hordguli_lines_utf8`.
+/* Writes `count` characters, starting at `pos`, to a buffer, as UTF-8. With NULL and capacity 0, returns NO_ROOM,
+ * unless `count` is 0 (see BUFFERS). NO_MEMORY comes before NO_ROOM, as in `hordguli_lines_utf8`.
  * Errors: NULL, OVERLAP, CLOSED, OUT_OF_RANGE, NO_MEMORY, NO_ROOM.
  * Cost: as for `hordguli_lines_utf8`. */
 hordguli_status hordguli_text(hordguli_session *session, size_t pos, size_t count, size_t capacity, char *buffer,
@@ -1042,8 +1042,8 @@ hordguli_status hordguli_line_clusters(hordguli_session *session, size_t line, s
 /* ---- Clusters and scripts ---- */
 
 /* Stores the ends of the grapheme clusters in a text of `count` characters, in an array of `capacity` elements, and
- * their number in `*cluster_count`. With NULL and capacity 0, returns NO_ROOM, unless `count` is 0 (see BUFFERS). The first
- * cluster starts at 0, each later one at the end of the cluster before it, and the last one ends at `count`. No cluster
+ * their number in `*cluster_count`. With NULL and capacity 0, returns NO_ROOM, unless `count` is 0 (see BUFFERS). The
+ * first cluster starts at 0, each later one at the end of the cluster before it, and the last one ends at `count`. No cluster
  * continues after a separator, so the clusters are those of a session with this text (`hordguli_cluster_at`), even for
  * a text of several paragraphs. NO_MEMORY comes before NO_ROOM.
  * Errors: NULL, OVERLAP, NOT_A_CHARACTER, NO_MEMORY, NO_ROOM.
@@ -1075,8 +1075,8 @@ typedef struct hordguli_script_run {
  *     nested, only the innermost 63 are matched.
  *
  * The property Script_Extensions is not used. The number of runs is stored in `*run_count`, and the runs in an array of
- * `capacity` elements. With NULL and capacity 0, returns NO_ROOM, unless `count` is 0 (see BUFFERS). NO_MEMORY comes before
- * NO_ROOM.
+ * `capacity` elements. With NULL and capacity 0, returns NO_ROOM, unless `count` is 0 (see BUFFERS). NO_MEMORY comes
+ * before NO_ROOM.
  * Errors: NULL, OVERLAP, CLOSED, NOT_A_CHARACTER, NO_MEMORY, NO_ROOM.
  * Cost: time and memory proportional to `count`.
  * Since: 0.6. */

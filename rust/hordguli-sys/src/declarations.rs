@@ -936,8 +936,8 @@ extern "C" {
         buffer: *mut c_char,
         length: *mut usize,
     ) -> hordguli_status;
-    /// Writes `count` characters, starting at `pos`, to a buffer, as UTF-8. With NULL and capacity 0, returns NO_ROOM, unless
-    /// `count` is 0 (see BUFFERS). NO_MEMORY comes before NO_ROOM, as in `hordguli_lines_utf8`.
+    /// Writes `count` characters, starting at `pos`, to a buffer, as UTF-8. With NULL and capacity 0, returns NO_ROOM,
+    /// unless `count` is 0 (see BUFFERS). NO_MEMORY comes before NO_ROOM, as in `hordguli_lines_utf8`.
     ///
     /// Errors: NULL, OVERLAP, CLOSED, OUT_OF_RANGE, NO_MEMORY, NO_ROOM.
     ///
@@ -1308,8 +1308,8 @@ extern "C" {
         count: *mut usize,
     ) -> hordguli_status;
     /// Stores the ends of the grapheme clusters in a text of `count` characters, in an array of `capacity` elements, and
-    /// their number in `*cluster_count`. With NULL and capacity 0, returns NO_ROOM, unless `count` is 0 (see BUFFERS). The first
-    /// cluster starts at 0, each later one at the end of the cluster before it, and the last one ends at `count`. No cluster
+    /// their number in `*cluster_count`. With NULL and capacity 0, returns NO_ROOM, unless `count` is 0 (see BUFFERS). The
+    /// first cluster starts at 0, each later one at the end of the cluster before it, and the last one ends at `count`. No cluster
     /// continues after a separator, so the clusters are those of a session with this text (`hordguli_cluster_at`), even for
     /// a text of several paragraphs. NO_MEMORY comes before NO_ROOM.
     ///
@@ -1338,8 +1338,8 @@ extern "C" {
     ///     nested, only the innermost 63 are matched.
     ///
     /// The property Script_Extensions is not used. The number of runs is stored in `*run_count`, and the runs in an array of
-    /// `capacity` elements. With NULL and capacity 0, returns NO_ROOM, unless `count` is 0 (see BUFFERS). NO_MEMORY comes before
-    /// NO_ROOM.
+    /// `capacity` elements. With NULL and capacity 0, returns NO_ROOM, unless `count` is 0 (see BUFFERS). NO_MEMORY comes
+    /// before NO_ROOM.
     ///
     /// Errors: NULL, OVERLAP, CLOSED, NOT_A_CHARACTER, NO_MEMORY, NO_ROOM.
     ///
