@@ -44,7 +44,7 @@
  * characters. Some terminals draw a grapheme cluster, such as an emoji family, narrower than this sum. Widths
  * follow Unicode 18.0. Characters of ambiguous East Asian width have width 1. Control characters have width 0
  * and are written unchanged. This includes tabs, unless HORDGULI_TAB_WIDTH is set. A program that writes to a
- * terminal must remove or replace control characters.
+ * terminal must remove control characters from the output, or replace them in the text before it is laid out.
  *
  * MEASURED TEXT
  *
@@ -284,7 +284,7 @@ const char *hordguli_width_unicode_version(void);
 #define HORDGULI_PRINT_PADDED UINT32_C(32)
 /* Mirrors characters at odd levels in visual lines (UAX #9, L4). */
 #define HORDGULI_PRINT_MIRRORED UINT32_C(64)
-/* What the command `fribidi` prints by default. */
+/* Visual order, mirrored, with RTL lines on the right, as the command `fribidi` prints by default. */
 #define HORDGULI_PRINT_DEFAULT (HORDGULI_PRINT_VISUAL | HORDGULI_PRINT_PADDED | HORDGULI_PRINT_MIRRORED)
 
 /* ---- Break marks ---- */
@@ -471,8 +471,8 @@ hordguli_status hordguli_count_utf8(const char *bytes, size_t length, size_t *co
 hordguli_status hordguli_valid_utf8(const char *bytes, size_t length, size_t *valid);
 
 /* Decodes UTF-8 text of `length` bytes. Stores the number of its characters in `*count`, and this many elements in each
- * array. Each array has `capacity` elements. NULL arrays are skipped, so with both NULL any capacity is enough (see
- * BUFFERS).
+ * array. Each array has `capacity` elements; `length` elements are always enough. NULL arrays are skipped, so with both
+ * NULL any capacity is enough (see BUFFERS). There is no call for the inverse.
  *   characters  characters, for the functions in `Clusters and scripts`, `Rows` and `Levels and properties`
  *   offsets     byte offset of each character
  *
@@ -575,7 +575,7 @@ typedef struct hordguli_changed {
  * characters, levels, maps, columns, advances, base level and length as before, and is the first line of its
  * paragraph if and only if it was before. The padding, which depends on the width, is not compared: RTL lines
  * move when the width changes, so redraw all of them. After the session is opened, all lines count as
- * changed. A failed call does not change the result.
+ * changed. A failed call does not change the result. The call's `damage` may have been NULL.
  * Errors: NULL, OVERLAP, CLOSED.
  * Cost: O(1).
  * Since: 0.6. */
@@ -1003,9 +1003,9 @@ hordguli_status hordguli_step(hordguli_session *session, hordguli_edge edge, uin
 hordguli_status hordguli_edge_at(hordguli_session *session, size_t line, size_t column, hordguli_edge *edge);
 
 /* Stores in `*edge` the edge nearest to a column of a line, for mouse clicks, which may hit either half of a
- * character. In the shown part, this is the nearer end of the caret unit that covers the column, or the right
- * end if both are equally near. Elsewhere, and in a unit of one column, this is the edge that
- * `hordguli_edge_at` stores.
+ * character. Column 0 is the left edge of the shown part, to the right of any padding. In the shown part, this
+ * is the nearer end of the caret unit that covers the column, or the right end if both are equally near.
+ * Elsewhere, and in a unit of one column, this is the edge that `hordguli_edge_at` stores.
  *
  * Fails with OUT_OF_RANGE for the same lines as `hordguli_edge_at`.
  * Errors: NULL, OVERLAP, CLOSED, OUT_OF_RANGE, NO_MEMORY.
@@ -1086,9 +1086,10 @@ hordguli_status hordguli_script_runs(hordguli_tables *tables, size_t count, cons
 /* ---- Rows ---- */
 
 /* Puts a row of `count` characters into visual order. The caller chooses where the row starts and ends.
- * `base` is the base level of its paragraph (`hordguli_base`), and `levels` are the levels of the row's
- * characters in the whole paragraph (`hordguli_levels`). `options` can have HORDGULI_REORDER_NSM and
- * HORDGULI_REORDER_CLUSTERS. The clusters depend only on the characters of the row. Stores `count` elements
+ * `base` is the base level of the row's paragraph (`hordguli_base`), and `levels` are the levels of the row's
+ * characters in the whole paragraph (`hordguli_levels`). A caller that knows only the row passes it to these
+ * calls as a paragraph. `options` can have HORDGULI_REORDER_NSM and HORDGULI_REORDER_CLUSTERS, but no
+ * direction. The clusters depend only on the characters of the row. Stores `count` elements
  * in each array. Each array has `capacity` elements. NULL arrays are skipped, so with all arrays NULL any
  * capacity is enough (see BUFFERS). Positions count from the start of the row.
  *   visual      characters in visual order, mirrored (UAX #9, L4)

@@ -666,8 +666,8 @@ extern "C" {
         valid: *mut usize,
     ) -> hordguli_status;
     /// Decodes UTF-8 text of `length` bytes. Stores the number of its characters in `*count`, and this many elements in each
-    /// array. Each array has `capacity` elements. NULL arrays are skipped, so with both NULL any capacity is enough (see
-    /// BUFFERS).
+    /// array. Each array has `capacity` elements; `length` elements are always enough. NULL arrays are skipped, so with both
+    /// NULL any capacity is enough (see BUFFERS). There is no call for the inverse.
     /// - `characters`: characters, for the functions in `Clusters and scripts`, `Rows` and `Levels and properties`
     /// - `offsets`: byte offset of each character
     ///
@@ -796,7 +796,7 @@ extern "C" {
     /// characters, levels, maps, columns, advances, base level and length as before, and is the first line of its
     /// paragraph if and only if it was before. The padding, which depends on the width, is not compared: RTL lines
     /// move when the width changes, so redraw all of them. After the session is opened, all lines count as
-    /// changed. A failed call does not change the result.
+    /// changed. A failed call does not change the result. The call's `damage` may have been NULL.
     ///
     /// Errors: NULL, OVERLAP, CLOSED.
     ///
@@ -1250,9 +1250,9 @@ extern "C" {
         edge: *mut hordguli_edge,
     ) -> hordguli_status;
     /// Stores in `*edge` the edge nearest to a column of a line, for mouse clicks, which may hit either half of a
-    /// character. In the shown part, this is the nearer end of the caret unit that covers the column, or the right
-    /// end if both are equally near. Elsewhere, and in a unit of one column, this is the edge that
-    /// `hordguli_edge_at` stores.
+    /// character. Column 0 is the left edge of the shown part, to the right of any padding. In the shown part, this
+    /// is the nearer end of the caret unit that covers the column, or the right end if both are equally near.
+    /// Elsewhere, and in a unit of one column, this is the edge that `hordguli_edge_at` stores.
     ///
     /// Fails with OUT_OF_RANGE for the same lines as `hordguli_edge_at`.
     ///
@@ -1355,9 +1355,10 @@ extern "C" {
         run_count: *mut usize,
     ) -> hordguli_status;
     /// Puts a row of `count` characters into visual order. The caller chooses where the row starts and ends.
-    /// `base` is the base level of its paragraph (`hordguli_base`), and `levels` are the levels of the row's
-    /// characters in the whole paragraph (`hordguli_levels`). `options` can have HORDGULI_REORDER_NSM and
-    /// HORDGULI_REORDER_CLUSTERS. The clusters depend only on the characters of the row. Stores `count` elements
+    /// `base` is the base level of the row's paragraph (`hordguli_base`), and `levels` are the levels of the row's
+    /// characters in the whole paragraph (`hordguli_levels`). A caller that knows only the row passes it to these
+    /// calls as a paragraph. `options` can have HORDGULI_REORDER_NSM and HORDGULI_REORDER_CLUSTERS, but no
+    /// direction. The clusters depend only on the characters of the row. Stores `count` elements
     /// in each array. Each array has `capacity` elements. NULL arrays are skipped, so with all arrays NULL any
     /// capacity is enough (see BUFFERS). Positions count from the start of the row.
     /// - `visual`: characters in visual order, mirrored (UAX #9, L4)
