@@ -12,7 +12,7 @@ use store::TreeStore;
 fn write(rt: &impl Abort, room: &mut [u8]) {
     let mut sink = ToWrite::new(room); // four bytes
     assert!(rt; write_all(&mut sink, b"abc") == Ok(()));
-    assert!(rt; write_all(&mut sink, b"de") == Err(1)); // one byte was taken
+    assert!(rt; write_all(&mut sink, b"de") == Err(1)); // one byte was written
 }
 
 #[test]
