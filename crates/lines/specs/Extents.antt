@@ -1,6 +1,6 @@
 -- Where the lines of a paragraph start, and how much of each is shown. A layout depends on the width only
 -- through these extents.
-use Rattle.std.specs.Prelude.{ℕ, ◌/◌, List, [], ◌∷◌, length, map, take, drop, slice_range, Option}
+use Rattle.std.specs.Prelude.{ℕ, ◌/◌, List, [], ◌∷◌, length, map, take, drop, slice_range, Option, None, Some}
 use Rattle.lines.specs.Filling.{columns, line_starts_of}
 use Rattle.lines.specs.Layouts.{Layout, Rules, start_of}
 use Rattle.lines.specs.CharInfos.{infos_of}
@@ -28,6 +28,11 @@ from_pairs items = []
 -- shown part
 abbrev pub unpacked : List ℕ → LineExtents
 unpacked items = record { starts = take (length items / 3) items; shown = from_pairs (drop (length items / 3) items) }
+
+-- the extents stored as the shown part of the only line, if it is given, or else in a list
+abbrev pub stored : Option Shown → List ℕ → LineExtents
+stored (Some part) items = record { starts = 0 ∷ []; shown = part ∷ [] }
+stored None items = unpacked items
 
 -- how many characters of the line from s to e are shown, and their total columns
 abbrev pub shown_between : Option ℕ → List CharInfo → ℕ → ℕ → Shown

@@ -9,11 +9,12 @@ ghost use Rattle.bidi.specs.Levels.{levels_of};
 ghost use Rattle.breaks.specs.Reasons.{reasons_of};
 ghost use Rattle.lines.specs.Bytes.{direction_line};
 ghost use Rattle.lines.specs.Layouts.{AreWithin, base_of};
-ghost use Rattle.lines.specs.Buffers.{held_lines, AreSound};
+ghost use Rattle.lines.specs.Buffers.{held_in, held_lines, AreSound};
 ghost use Rattle.lines.specs.Pages.{lines_bytes, paragraph_bytes};
 ghost use Rattle.lines.specs.Printing.{FailedAs, skips_lines};
 ghost use Rattle.lines.specs.Separators.{separator_len};
 
+use crate::buffers::LayoutBuffers;
 use crate::counting::char_count;
 use crate::counts::Counts;
 use crate::extents::Extents;
@@ -31,7 +32,7 @@ use bidi::{
     LevelReason, base_level, base_level_in_text, first_cut, first_cut_in_text, is_cut,
     level_reasons,
 };
-use breaks::{Mark, Reason, marks_are_as_many, paragraphs_end_at_must, reasons};
+use breaks::{Reason, marks_are_as_many, paragraphs_end_at_must, reasons};
 use device::Sink;
 use std::alloc::{AllocError, Global};
 use std::fmt;
@@ -62,17 +63,6 @@ impl Debug for Engine {
     fn fmt<W: fmt::Write>(&self, f: &mut Formatter<W>) -> fmt::Result {
         f.debug_struct("Engine").finish_non_exhaustive()
     }
-}
-
-// The layout of a paragraph, without its text.
-#[derive(Drop)]
-struct Parts {
-    base: u8,
-    tab_width: u8,
-    levels: Vec<u8>,
-    marks: Vec<Mark>,
-    ends: Vec<bool>,
-    lines: Fill,
 }
 
 impl Drop for Engine {
@@ -113,6 +103,7 @@ impl Engine {
     ghost use Rattle.lines.specs.Engine.{Fills, FillsAtMost, FindsExtents, FindsExtentsAtMost};
     ghost use Rattle.lines.specs.Engine.{LaysOut, LaysOutAtMost, Prints, Rewrites, RewritesAtMost};
     ghost use Rattle.lines.specs.Engine.{SameRules};
+    ghost use Rattle.lines.specs.Tabs.{tab_width_in};
 
     /// Creates an engine whose counters are 0. Allocates nothing.
     pub fn new(tables: Tables, options: Options) -> Engine
@@ -301,17 +292,18 @@ impl Engine {
         ensures filled { filled_of self.new ≡ counted (filled_of self.old) (length text.items) }
         ensures rules { SameRules self.old self.new }
     {
-        match self.parts(alloc, &text, None, width) {
-            Ok(parts) => Ok(Laid {
+        let mut lists = LayoutBuffers::new(alloc);
+        match self.fill_lists(alloc, &text, None, width, &mut lists) {
+            Ok(base) => Ok(Laid {
                 text,
-                base: parts.base,
-                tab_width: parts.tab_width,
+                base,
+                tab_width: self.tab_width(),
                 is_measured: false,
                 sizes: Vec::new(alloc),
-                levels: parts.levels,
-                marks: parts.marks,
-                ends: parts.ends,
-                lines: parts.lines,
+                levels: lists.levels,
+                marks: lists.marks,
+                ends: lists.ends,
+                lines: Fill::of(lists.lines),
             }),
             Err(error) => Err((text, error)),
         }
@@ -339,19 +331,22 @@ impl Engine {
         ensures at_most { LaysOutAtMost (length text.items) self.old self.new }
         ensures rules { SameRules self.old self.new }
     {
-        let parts = self.parts(alloc, &text, Some(&advances), width)?;
-        let mut sizes = with_room(advances, parts.tab_width)?;
-        put_all_widths(true, &text, parts.tab_width, &parts.lines, &mut sizes);
+        let mut lists = LayoutBuffers::new(alloc);
+        let base = self.fill_lists(alloc, &text, Some(&advances), width, &mut lists)?;
+        let tab_width = self.tab_width();
+        let lines = Fill::of(lists.lines);
+        let mut sizes = with_room(advances, tab_width)?;
+        put_all_widths(true, &text, tab_width, &lines, &mut sizes);
         Ok(Laid {
             text,
-            base: parts.base,
-            tab_width: parts.tab_width,
+            base,
+            tab_width,
             is_measured: true,
             sizes,
-            levels: parts.levels,
-            marks: parts.marks,
-            ends: parts.ends,
-            lines: parts.lines,
+            levels: lists.levels,
+            marks: lists.marks,
+            ends: lists.ends,
+            lines,
         })
     }
 
@@ -663,32 +658,43 @@ impl Engine {
         }
     }
 
-    // Lays out a paragraph, and returns the layout without the text.
-    fn parts(
+    // Returns the width of a tab stop, or 0 if there are none.
+    fn tab_width(&self) -> u8
+        ensures { result ≡ tab_width_in (rules_of self.now).tables (rules_of self.now).options }
+    {
+        let rules = LentRules {
+            tables: &self.tables,
+            options: self.options,
+        };
+        rules.tab_width()
+    }
+
+    // Lays out a paragraph. Returns its base level, and replaces the contents of the lists with the rest of
+    // its layout.
+    fn fill_lists(
         &mut self,
         alloc: Global,
         text: &[char],
         advances: Option<&[u32]>,
         width: u32,
-    ) -> Result<Parts, AllocError>
+        lists: &mut LayoutBuffers,
+    ) -> Result<u8, AllocError>
         requires limit { length text.now ≤ PARAGRAPH_LIMIT }
         requires room { HaveRoom (option_map (λ list. list.now) advances) }
-        ensures base { IfOk result (λ parts.
-            parts.base ≡ (layout_of (rules_of self.old) width text.now).base) }
-        ensures tab_width { IfOk result (λ parts.
-            parts.tab_width ≡ (layout_of (rules_of self.old) width text.now).tab_width) }
-        ensures levels { IfOk result (λ parts.
-            parts.levels.items ≡ (layout_of (rules_of self.old) width text.now).levels) }
-        ensures marks { IfOk result (λ parts.
-            parts.marks.items ≡ (layout_of (rules_of self.old) width text.now).marks) }
-        ensures ends { IfOk result (λ parts.
-            parts.ends.items ≡ (layout_of (rules_of self.old) width text.now).ends) }
-        ensures lines { IfOk result (λ parts.
-            parts.lines ≡ fill_of (with_advances (rules_of self.old)
+        ensures base { IfOk result (λ base. base ≡ (layout_of (rules_of self.old) width text.now).base) }
+        ensures levels { OnOk result
+            (lists.new.levels.items ≡ (layout_of (rules_of self.old) width text.now).levels) }
+        ensures marks { OnOk result
+            (lists.new.marks.items ≡ (layout_of (rules_of self.old) width text.now).marks) }
+        ensures ends { OnOk result
+            (lists.new.ends.items ≡ (layout_of (rules_of self.old) width text.now).ends) }
+        ensures lines { OnOk result (held_in lists.new.lines
+            ≡ fill_of (with_advances (rules_of self.old)
             (option_map (λ list. list.now) advances.entry)) width text.now) }
+        ensures sound { OnOk result (AreSound lists.new.lines) }
         ensures unmeasured { (rules_of self.old).advances ≡ None }
-        ensures len { IfOk result (λ parts. length parts.levels.items ≡ length text.now) }
-        ensures within { IfOk result (λ parts. AreWithin (length text.now) parts.lines.lines) }
+        ensures len { OnOk result (length lists.new.levels.items ≡ length text.now) }
+        ensures within { OnOk result (AreWithin (length text.now) (held_lines lists.new.lines)) }
         ensures counts { OnOk result (LaysOut (length text.now) self.old self.new) }
         ensures unwritten { OnErr result (written_of self.new ≡ written_of self.old) }
         ensures at_most { LaysOutAtMost (length text.now) self.old self.new }
@@ -700,20 +706,13 @@ impl Engine {
             self.counts.count_refused(text.len());
             return Err(AllocError);
         };
-        let mut kept = work.take_lists(alloc, text.len());
+        work.lend_lists(text.len(), lists);
         let counts = &mut self.counts;
         let rules = LentRules {
             tables: &self.tables,
             options: self.options,
         };
-        let base = work.lay_out(&rules, text, advances, width, &mut kept, counts)?;
-        Ok(Parts {
-            base,
-            tab_width: rules.tab_width(),
-            levels: kept.levels,
-            marks: kept.marks,
-            ends: kept.ends,
-            lines: Fill::of(kept.lines),
-        })
+        let base = work.lay_out(&rules, text, advances, width, lists, counts)?;
+        Ok(base)
     }
 }

@@ -18,7 +18,6 @@ use crate::counts::Counted;
 use crate::fill::Shown;
 use crate::filling::line_starts;
 use crate::options::Options;
-use crate::reserve::reserve;
 use crate::shown_parts::fill_shown;
 use crate::sizes::{ByAdvances, ByColumns, Ruler, Sizes};
 use std::alloc::{AllocError, Global};
@@ -28,23 +27,26 @@ use std::marker::Model;
 /// paragraph's lines can be written without allocating.
 #[derive(Debug, Drop)]
 pub struct Extents {
-    // The start of each line, and then the length and the columns of each line's shown part. One list saves
-    // an allocation per paragraph.
+    // How much is shown of the only line. Most paragraphs have one line, whose extents need no list.
+    line: Option<Shown>,
+    // If `line` is `None`, the start of each line, and then the length and the columns of each line's shown
+    // part. One list saves an allocation per paragraph.
     items: Vec<u32>,
 }
 
 impl Model for Extents {
-    ghost use Rattle.lines.specs.Extents.{LineExtents, unpacked};
+    ghost use Rattle.lines.specs.Extents.{stored, LineExtents};
 
     ghost Value = { LineExtents };
 
-    ghost view = { λ e. unpacked e.items.items };
+    ghost view = { λ e. stored e.line e.items.items };
 }
 
 impl Extents {
     /// Creates extents without lines. Allocates nothing.
     pub(crate) fn new(alloc: Global) -> Extents {
         Extents {
+            line: None,
             items: Vec::new(alloc),
         }
     }
@@ -53,7 +55,10 @@ impl Extents {
     pub(crate) fn starts(&self) -> &[u32]
         ensures { result.now ≡ self.now.starts }
     {
-        &self.items[..self.items.len() / 3]
+        match self.line {
+            Some(_) => &[0],
+            None => &self.items[..self.items.len() / 3],
+        }
     }
 
     /// Returns how much of line `k` is shown.
@@ -61,20 +66,24 @@ impl Extents {
         requires { k < length self.now.starts }
         ensures { result ≡ slice_index_or self.now.shown k nothing_shown }
     {
-        let place = self.items.len() / 3 + 2 * k;
-        Shown {
-            len: self.items[place],
-            columns: self.items[place + 1],
+        match self.line {
+            Some(shown) => shown,
+            None => {
+                let place = self.items.len() / 3 + 2 * k;
+                Shown {
+                    len: self.items[place],
+                    columns: self.items[place + 1],
+                }
+            }
         }
     }
 
-    /// Replaces the extents with those of a single line, which starts at the first character.
-    pub(crate) fn put_line(&mut self, shown: Shown, _filled: Counted) -> Result<(), AllocError>
-        ensures { OnOk result (self.new ≡ record { starts = 0 ∷ []; shown = shown ∷ [] }) }
+    /// Replaces the extents with those of a single line, which starts at the first character. Allocates
+    /// nothing.
+    pub(crate) fn put_line(&mut self, shown: Shown, _filled: Counted)
+        ensures { self.new ≡ record { starts = 0 ∷ []; shown = shown ∷ [] } }
     {
-        self.items.clear();
-        reserve(&mut self.items, 3)?;
-        self.items.extend_from_slice(&[0, shown.len, shown.columns])
+        self.line = Some(shown);
     }
 
     /// Finds where each line of a paragraph starts, and how much of it is shown. The ruler's sizes must be
@@ -150,6 +159,7 @@ impl Extents {
             (sized (S.given ruler.sizes) (with_ends infos.old (cluster_ends text.now))) self.new.starts) }
         ensures ordered { OnOk result (AreStarts (length text.now) self.new.starts) }
     {
+        self.line = None;
         let items = &mut self.items;
         line_starts(clusters, text, infos, ruler, options.nobreak, items, filled)?;
         fill_shown(

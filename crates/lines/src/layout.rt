@@ -152,7 +152,7 @@ fn show_one_line(
     ensures unwritten { OnErr result (written.new ≡ written.old) }
     ensures at_most { RisesBy (length paragraph.now.text.characters.now) written.old written.new }
 {
-    lines.extents.put_line(shown, filled)?;
+    lines.extents.put_line(shown, filled);
     show_lines(paragraph, lines, written)
 }
 

@@ -184,7 +184,8 @@ fn fill_spans(
     lines.visual.grow_to(text.characters.len())?;
     infos.cache.prepare()?;
     if let Some(shown) = one_line(text, width, &mut infos.cache) {
-        return lines.extents.put_line(shown, filled);
+        lines.extents.put_line(shown, filled);
+        return Ok(());
     }
     fill_marks(text, marks)?;
     infos.fill(text, marks)?;

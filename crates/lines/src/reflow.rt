@@ -100,7 +100,7 @@ impl Workspace {
         self.infos.cache.prepare()?;
         if laid.advances().is_none() {
             if let Some(shown) = one_line(&known, width, &mut self.infos.cache) {
-                return extents_of_line(alloc, shown, filled);
+                return Ok(extents_of_line(alloc, shown, filled));
             }
         }
         self.infos.fill(&known, laid.marks())?;
@@ -162,10 +162,10 @@ impl Workspace {
 }
 
 // Returns the extents of a single line whose shown part is `shown`.
-fn extents_of_line(alloc: Global, shown: Shown, filled: Counted) -> Result<Extents, AllocError>
-    ensures { IfOk result (λ extents. extents ≡ record { starts = 0 ∷ []; shown = shown ∷ [] }) }
+fn extents_of_line(alloc: Global, shown: Shown, filled: Counted) -> Extents
+    ensures { result ≡ record { starts = 0 ∷ []; shown = shown ∷ [] } }
 {
     let mut extents = Extents::new(alloc);
-    extents.put_line(shown, filled)?;
-    Ok(extents)
+    extents.put_line(shown, filled);
+    extents
 }

@@ -85,13 +85,11 @@ impl Workspace {
         }
     }
 
-    /// Returns lists for a paragraph of `len` characters that is kept: recycled ones if their capacity is
-    /// suitable (see `fits`), and otherwise empty ones.
-    pub(crate) fn take_lists(&mut self, alloc: Global, len: usize) -> LayoutBuffers {
+    /// Exchanges lists for the recycled ones if the capacity of those is suitable for a paragraph of `len`
+    /// characters (see `fits`).
+    pub(crate) fn lend_lists(&mut self, len: usize, lists: &mut LayoutBuffers) {
         if fits(self.recycled.levels.capacity(), len) {
-            mem::replace(&mut self.recycled, LayoutBuffers::new(alloc))
-        } else {
-            LayoutBuffers::new(alloc)
+            mem::swap(&mut self.recycled, lists);
         }
     }
 }
@@ -102,13 +100,20 @@ fn fits(capacity: usize, len: usize) -> bool {
     capacity >= len && capacity - len <= len / 8 + 16
 }
 
+// Allocates a workspace.
+#[inline(never)] // so that calls that need no new workspace do not clear its frame
+fn allocated(alloc: Global) -> Result<Box<Workspace>, AllocError> {
+    let work = Box::new(alloc, Workspace::new(alloc))?;
+    Ok(work)
+}
+
 /// Returns an engine's workspace, and allocates it first if there is none yet.
 pub(crate) fn ready(
     work: &mut Option<Box<Workspace>>,
     alloc: Global,
 ) -> Result<&mut Workspace, AllocError> {
     if work.is_none() {
-        *work = Some(Box::new(alloc, Workspace::new(alloc))?);
+        *work = Some(allocated(alloc)?);
     }
     match work {
         Some(work) => Ok(work),

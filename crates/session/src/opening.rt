@@ -59,11 +59,12 @@ fn split_first<'a>(engine: &Engine, text: &'a str) -> (&'a str, &'a str)
 }
 
 // Copies a list if much of its capacity is unused. Shrinking the list in place would split its memory block,
-// so the next list of that capacity could not reuse the block.
+// so the next list of that capacity could not reuse the block. A short text of two bytes a character is not
+// copied.
 fn fitted(alloc: Global, list: Vec<char>) -> Result<Vec<char>, AllocError>
     ensures { IfOk result (λ fitted. fitted.items ≡ list.items) }
 {
-    if list.capacity() - list.len() > list.len() / 8 + 16 {
+    if list.capacity() - list.len() > list.len() / 8 + 32 {
         return Vec::from_slice(alloc, &list);
     }
     Ok(list)
@@ -91,6 +92,17 @@ fn append<S: ParagraphStore<Kept>>(store: &mut S, new: Vec<Kept>) -> Result<(), 
     let count = store.count();
     match store.replace(count..count, new) {
         Ok(_) => Ok(()),
+        Err((_, error)) => Err(error),
+    }
+}
+
+// Appends one layout to a store.
+fn push<S: ParagraphStore<Kept>>(store: &mut S, kept: Kept) -> Result<(), AllocError>
+    requires { TotalsFit (S.items store.old ++ kept ∷ []) }
+    ensures { OnOk result (S.items store.new ≡ S.items store.old ++ kept ∷ []) }
+{
+    match store.push(kept) {
+        Ok(()) => Ok(()),
         Err((_, error)) => Err(error),
     }
 }
@@ -189,9 +201,7 @@ fn append_one<S: ParagraphStore<Kept>>(
     let characters = fitted(alloc, list)?;
     let advances = zeros(Vec::new(alloc), form.is_measured, characters.len())?;
     let kept = lay_out_moved(alloc, engine, characters, advances, form)?;
-    let mut new = Vec::with_capacity(alloc, 1)?;
-    new.push(kept)?;
-    append(store, new)
+    push(store, kept)
 }
 
 /// Lays out each paragraph of a text once, and appends the layouts to a store. Every paragraph must be within

@@ -1,5 +1,5 @@
 //! The interface of stores, which are lists of items with the sums of their sizes.
-ghost use Rattle.std.specs.Prelude.{◌≡◌, ◌+◌, ◌-◌, ◌^◌, ◌<◌, ◌≤◌};
+ghost use Rattle.std.specs.Prelude.{◌≡◌, ◌+◌, ◌-◌, ◌^◌, ◌<◌, ◌≤◌, ◌∷◌, ◌++◌};
 ghost use Rattle.std.specs.Prelude.{ℕ, List, [], length, map, slice_get, slice_range, option_map, sum_by};
 ghost use Rattle.std.specs.Prelude.{IfOk, IfErr, OnOk, OnErr};
 ghost use Rattle.std.specs.List.{splice, AllZip};
@@ -11,8 +11,9 @@ use crate::measured::{ByItem, Exchange, Exchanger, Measured};
 use std::alloc::{AllocError, Global};
 use std::ops::Range;
 
-/// A list of items, with the sums of their characters, lines, bytes and code units. Only `replace` and `list`
-/// allocate, and only if there are items to list, insert or remove. No method drops or copies an item.
+/// A list of items, with the sums of their characters, lines, bytes and code units. Only `push`, `replace`
+/// and `list` allocate, and the last two only if there are items to list, insert or remove. No method drops
+/// or copies an item.
 pub trait ParagraphStore<P: Measured> {
     // The items in order.
     ghost items: { Self → List P };
@@ -83,6 +84,17 @@ pub trait ParagraphStore<P: Measured> {
         requires { index < length (items self.now) }
         ensures found { FindsItem P.chars P.lines (items self.now) index result }
         ensures counts { CountsBefore P.bytes P.utf16 (items self.now) result };
+
+    /// Appends an item. The new sums must fit in a `usize`. If an allocation fails, changes nothing, and
+    /// returns the item with the error.
+    fn push(&mut self, item: P) -> Result<(), (P, AllocError)>
+        requires chars_fit { sum_by P.chars (items self.old ++ item ∷ []) < 2 ^ 64 }
+        requires lines_fit { sum_by P.lines (items self.old ++ item ∷ []) < 2 ^ 64 }
+        requires bytes_fit { sum_by P.bytes (items self.old ++ item ∷ []) < 2 ^ 64 }
+        requires utf16_fit { sum_by P.utf16 (items self.old ++ item ∷ []) < 2 ^ 64 }
+        ensures ok { OnOk result (items self.new ≡ items self.old ++ item ∷ []) }
+        ensures err { OnErr result (self.new ≡ self.old) }
+        ensures back { IfErr result (λ e. e.0 ≡ item) };
 
     /// Replaces the items of a range with new ones, and returns the old items. The new sums must fit in a
     /// `usize`. If an allocation fails, changes nothing, and returns the new items with the error.

@@ -98,16 +98,6 @@ impl<P: Measured> Subtree<P> {
         }
     }
 
-    /// Returns whether there are no items.
-    pub(crate) fn is_empty(&self) -> bool
-        ensures { result ≡ true → self.now ≡ Empty }
-    {
-        match &self.root {
-            None => true,
-            Some(_) => false,
-        }
-    }
-
     /// Returns the sums of all items.
     pub(crate) fn sums(&self) -> Sums
         ensures sums { AreSums P.Measured (in_order self.now) result }

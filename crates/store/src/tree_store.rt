@@ -6,12 +6,11 @@ ghost use Rattle.std.specs.Prelude.{IfOk, IfErr, OnOk, OnErr};
 ghost use Rattle.std.specs.List.{splice, AllZip};
 ghost use Rattle.store.specs.Exchanging.{pairwise};
 ghost use Rattle.store.specs.Finding.{CountsBefore, Finds, FindsItem};
-ghost use Rattle.store.specs.Subtrees.{Fits};
 ghost use Rattle.store.specs.Sums.{measure, SumsFit};
-ghost use Rattle.store.specs.Trees.{fewest_nodes, height, in_order, nodes_to, Empty, IsBalanced, Tree};
+ghost use Rattle.store.specs.Trees.{fewest_nodes, height, in_order, nodes_to, IsBalanced, Tree};
 
 use crate::found::Found;
-use crate::joining::{move_items, put_in};
+use crate::joining::{join, move_items, put_in};
 use crate::measured::{Exchanger, Measured};
 use crate::paragraph_store::ParagraphStore;
 use crate::subtree::{DetachedNode, Subtree};
@@ -134,31 +133,6 @@ impl<P: Measured> TreeStore<P> {
             & (sums.lines <= usize::MAX - more.lines)
             & (sums.bytes <= usize::MAX - more.bytes)
             & (sums.utf16 <= usize::MAX - more.utf16)
-    }
-
-    // Moves the only item of a list into an empty store, and returns the empty list. Allocates only the
-    // item's node. If that fails, returns the list with the item in it.
-    fn put_only(&mut self, items: Vec<P>) -> Result<Vec<P>, (Vec<P>, AllocError)>
-        requires empty { self.old ≡ Empty }
-        requires one { length items.items ≡ 1 }
-        requires fits { Fits P.Measured items.items }
-        ensures ok { OnOk result (in_order self.new ≡ items.items) }
-        ensures left { IfOk result (λ left. left.items ≡ []) }
-        ensures err { OnErr result (self.new ≡ self.old) }
-        ensures back { IfErr result (λ e. e.0.items ≡ items.items) }
-    {
-        let mut list = items;
-        match DetachedNode::new(self.alloc, list.take_last()) {
-            Ok(node) => {
-                let root = node.over(Subtree::empty(), Subtree::empty());
-                mem::replace(&mut self.root, root).discard();
-                Ok(list)
-            }
-            Err(failed) => {
-                list.push_reserved(failed.value);
-                Err((list, AllocError))
-            }
-        }
     }
 }
 
@@ -320,6 +294,21 @@ impl<P: Measured> ParagraphStore<P> for TreeStore<P> {
         self.root.find_item(index).found()
     }
 
+    fn push(&mut self, item: P) -> Result<(), (P, AllocError)> {
+        if self.root.count() == usize::MAX {
+            return Err((item, AllocError));
+        }
+        match DetachedNode::new(self.alloc, item) {
+            Ok(node) => {
+                let root = mem::replace(&mut self.root, Subtree::empty());
+                let joined = join(root, node, Subtree::empty());
+                mem::replace(&mut self.root, joined).discard();
+                Ok(())
+            }
+            Err(failed) => Err((failed.value, AllocError)),
+        }
+    }
+
     fn replace(
         &mut self,
         range: Range<usize>,
@@ -351,9 +340,6 @@ impl<P: Measured> ParagraphStore<P> for TreeStore<P> {
         if removed == 2 && new_items.len() == 2 && self.has_room(&new_items[0]) {
             self.replace_two(range.start, &mut new_items);
             return Ok(new_items);
-        }
-        if new_items.len() == 1 && self.root.is_empty() {
-            return self.put_only(new_items);
         }
         let kept = self.root.count() - removed;
         let Ok((mut old, nodes)) = take_memory(self.alloc, kept, removed, &mut new_items) else {

@@ -276,6 +276,15 @@ impl<P: Measured> ParagraphStore<P> for VecStore<P> {
         find_item(&self.items, index).found()
     }
 
+    fn push(&mut self, item: P) -> Result<(), (P, AllocError)> {
+        let more = Sums::of(&item);
+        if let Err(failed) = self.items.push(item) {
+            return Err((failed.value, AllocError));
+        }
+        self.sums = self.sums.plus(more);
+        Ok(())
+    }
+
     fn replace(
         &mut self,
         range: Range<usize>,

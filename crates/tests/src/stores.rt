@@ -1,5 +1,5 @@
-//! Compares the two stores. The tests must also pass if any one allocation fails: a failed `replace` changes
-//! nothing, and is tried again.
+//! Compares the two stores. The tests must also pass if any one allocation fails: a failed `push` or `replace`
+//! changes nothing, and is tried again.
 ghost use Rattle.std.specs.Prelude.{◌≡◌, ◌+◌, ◌-◌, ◌^◌, ◌<◌, sum_by};
 
 use std::alloc::{AllocError, Global};
@@ -154,6 +154,19 @@ fn replace<S: ParagraphStore<Item>>(
     store.replace(range, new_items)
 }
 
+// Appends an item. Asserts that all sums are below `LIMIT`.
+fn push<S: ParagraphStore<Item>>(
+    rt: &impl Abort,
+    store: &mut S,
+    item: Item,
+) -> Result<(), (Item, AllocError)> {
+    assert!(rt; item.chars < LIMIT && item.lines < LIMIT);
+    assert!(rt; item.bytes < LIMIT && item.utf16 < LIMIT);
+    assert!(rt; store.total_chars() < LIMIT && store.total_lines() < LIMIT);
+    assert!(rt; store.total_bytes() < LIMIT && store.total_utf16() < LIMIT);
+    store.push(item)
+}
+
 // Returns the sum of the parts, with `more` added to each part. A sum above 2^64−1 becomes 2^64−1.
 fn sum(parts: &[usize], more: usize) -> usize
     ensures { result < 2 ^ 64 - 1 → result ≡ sum_by (λ lines. lines + more) parts.now }
@@ -196,16 +209,21 @@ fn items(alloc: Global, first: u32, count: usize) -> Result<Vec<Item>, AllocErro
     let mut items = with_room(alloc, count)?;
     let mut name = first;
     for _ in 0..count {
-        items.push(Item {
-            name,
-            chars: name as usize % 5,
-            lines: name as usize % 3,
-            bytes: name as usize % 7,
-            utf16: name as usize % 4,
-        })?;
+        items.push(item_of(name))?;
         name = name.wrapping_add(1);
     }
     Ok(items)
+}
+
+// Makes the item of a name.
+fn item_of(name: u32) -> Item {
+    Item {
+        name,
+        chars: name as usize % 5,
+        lines: name as usize % 3,
+        bytes: name as usize % 7,
+        utf16: name as usize % 4,
+    }
 }
 
 // Makes items of one character and one line each.
@@ -346,6 +364,26 @@ fn replace_again<S: ParagraphStore<Item>>(
     }
 }
 
+// Appends an item, and tries again after an allocation failure. Asserts that a failed call returns the item,
+// and leaves the sums of the store unchanged.
+fn push_again<S: ParagraphStore<Item>>(
+    rt: &impl Abort,
+    store: &mut S,
+    item: Item,
+) -> Result<(), AllocError> {
+    let size = size_of(store);
+    match push(rt, store, item) {
+        Ok(()) => Ok(()),
+        Err((back, _)) => {
+            assert!(rt; size_of(store) == size && back == item);
+            match push(rt, store, back) {
+                Ok(()) => Ok(()),
+                Err((_, fault)) => Err(fault),
+            }
+        }
+    }
+}
+
 // Replaces the items of a range with `count` others, and returns the old items.
 fn replaced<S: ParagraphStore<Item>>(
     rt: &impl Abort,
@@ -471,6 +509,27 @@ fn replace_at_random<S: ParagraphStore<Item>, T: ParagraphStore<Item>>(
 #[test]
 fn both_stores_agree_after_random_replacements(rt: HostRuntime) -> Result<(), Fail> {
     Ok(check_stores(&rt, rt.alloc(), Check::Random)?)
+}
+
+// Appends 100 items to both stores, one after the other.
+fn push_both<S: ParagraphStore<Item>, T: ParagraphStore<Item>>(
+    rt: &impl Abort,
+    alloc: Global,
+    both: &mut Both<S, T>,
+) -> Result<(), AllocError> {
+    for name in 0..100u32 {
+        push_again(rt, &mut both.tree, item_of(name))?;
+        push_again(rt, &mut both.list, item_of(name))?;
+        check_both(rt, alloc, both)?;
+    }
+    assert!(rt; has_names(&both.list, &[0, 1, 2, 3]));
+    assert!(rt; both.list.count() == 100);
+    Ok(())
+}
+
+#[test]
+fn both_stores_agree_after_items_are_appended(rt: HostRuntime) -> Result<(), Fail> {
+    Ok(check_stores(&rt, rt.alloc(), Check::Pushes)?)
 }
 
 static THREE_BY_TWO: [Row; 2] = [((0, 0), (1, 8)), ((2, 5), (11, 2))];
@@ -627,6 +686,7 @@ fn tree_visits_at_most_39_of_a_million_items(rt: HostRuntime) -> Result<(), Fail
 enum Check {
     Rows,
     Random,
+    Pushes,
     ThreeByTwo,
     Exchanges,
     Thousand,
@@ -642,6 +702,7 @@ fn check_by<S: ParagraphStore<Item>, T: ParagraphStore<Item>>(
     match what {
         Check::Rows => check_rows(rt, alloc, both),
         Check::Random => replace_at_random(rt, alloc, both),
+        Check::Pushes => push_both(rt, alloc, both),
         Check::ThreeByTwo => check_names(rt, alloc, both),
         Check::Exchanges => exchange_both(rt, alloc, both),
         Check::Thousand => check_thousand(rt, alloc, both),

@@ -15,7 +15,7 @@ show_lines-requires-clause-shown c =
     let options = text.rules.options in
     let margin = margin_of options c.args._width in
     let infos = infos_of text.rules.tables.now options None text.characters.now in
-    let put = c.in_ok-put_line.ensures in (
+    let put = c.put_line.ensures in (
       margin,
       infos,
       ap (λ (e : LineExtents). e.shown) put ∙ sym c.requires.shown.shown
@@ -32,7 +32,7 @@ returns-clause-lines c =
     let margin = margin_of options c.args._width in
     let infos = infos_of tables options None chars in
     let starts = c.put_line.new.self.starts in
-    let put = c.in_ok-put_line.ensures in
+    let put = c.put_line.ensures in
     let starts_are = ap (λ (e : LineExtents). e.starts) put in
     let shown = ap (λ (e : LineExtents). e.shown) put ∙ sym c.requires.shown.shown
     ∙ ap (shown_from margin (length chars) infos) (sym starts_are) in

@@ -6,16 +6,12 @@ use Rattle.lines.specs.Engine.{rules_of}
 use Rattle.lines.specs.Layouts.{Rules, base_of}
 use Rattle.lines.specs.Buffers.{held_lines}
 use Rattle.lines.specs.Reordering.{ends_by}
-use Rattle.lines.specs.Tabs.{tab_width_in}
 use Rattle.lines.proofs.LayoutLemmas.{filled_as, lines_with}
-use Rattle.lines.proofs.engine.Engine.parts.Goals as goal
+use Rattle.lines.proofs.engine.Engine.fill_lists.Goals as goal
 
 pub returns-clause-base : goal.returns-clause-base
 returns-clause-base c =
     subst (λ (rules : Rules). c.in_ok-base.base ≡ base_of rules c.args.text.now) (ap rules_of c.self.view_is) c.in_ok-base.ensures.base
-
-pub returns-clause-tab_width : goal.returns-clause-tab_width
-returns-clause-tab_width c = c.tab_width.ensures ∙ ap (λ (rules : Rules). tab_width_in rules.tables rules.options) (ap rules_of c.self.view_is)
 
 pub returns-clause-levels : goal.returns-clause-levels
 returns-clause-levels c =
@@ -32,7 +28,7 @@ returns-clause-ends c =
 pub returns-clause-lines : goal.returns-clause-lines
 returns-clause-lines c =
     let lines = lines_with (option_map (λ list. list.now) c.args.advances) c.args.width c.args.text.now (held_lines c.lay_out.new.kept.lines) (ap rules_of c.self.view_is) c.in_ok-base.ensures.lines in
-    c.of.ensures ∙ filled_as _ _ _ _ lines c.in_ok-base.ensures.lines_len
+    filled_as _ _ _ _ lines c.in_ok-base.ensures.lines_len
 
 pub returns-clause-unmeasured : goal.returns-clause-unmeasured
 returns-clause-unmeasured c = sym (ap (λ (rules : Rules). rules.advances) (ap rules_of c.self.view_is))
