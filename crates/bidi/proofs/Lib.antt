@@ -42,7 +42,6 @@ mod PartnerLemmas
 mod PiecesLemmas
 mod PlainLemmas
 mod ResolverLemmas
-mod ReuseLemmas
 mod RunLemmas
 mod SequenceStartLemmas
 mod SequenceStepLemmas

@@ -8,7 +8,6 @@ pub mod Cuts
 pub mod Doubling
 pub mod Explicit
 pub mod Isolates
-pub mod KnownBrackets
 pub mod LevelReasons
 pub mod Levels
 pub mod Neighbours

@@ -78,21 +78,19 @@ pub(crate) fn matching(openers: &[Opener], closer: u32) -> Option<usize>
 }
 
 // Pairs the closing bracket at `place` with the newest opening bracket that it matches, if any. Removes that
-// bracket and all newer ones from the stack. Returns whether a match was found.
-fn close(openers: &mut Vec<Opener>, pairs: &mut [BracketPair], closer: u32, place: usize) -> bool
+// bracket and all newer ones from the stack.
+fn close(openers: &mut Vec<Opener>, pairs: &mut [BracketPair], closer: u32, place: usize)
     requires { (m : ℕ) → m < length openers.old.items → index_of openers.old.items m < length pairs.old }
     ensures openers { openers.new.items ≡ left_by (newest openers.old.items closer) openers.old.items }
     ensures pairs { pairs.new
         ≡ closed_by (newest openers.old.items closer) openers.old.items pairs.old place }
-    ensures none { result ≡ false → newest openers.old.items closer ≡ None }
 {
     match matching(openers, closer) {
         Some(held) => {
             pairs[openers[held].index].closer = place;
             openers.truncate(held);
-            true
         }
-        None => false,
+        None => {}
     }
 }
 
@@ -129,10 +127,7 @@ impl Pairs {
             → kinds.now ≡ bracket_types look text
             → types.new ≡ brackets look embedding sos text explicit.now types.old) }
     {
-        let has_pairs = find_pairs(kinds, types, &mut self.openers, &mut self.found)?;
-        if !has_pairs {
-            return Ok(());
-        }
+        find_pairs(kinds, types, &mut self.openers, &mut self.found)?;
         copy_types(types, &mut self.before)?;
         resolve_brackets(types, &self.before, explicit, &self.found, embedding, sos);
         Ok(())
@@ -148,13 +143,13 @@ pub(crate) fn copy_types(from: &[BidiClass], to: &mut Vec<BidiClass>) -> Result<
 }
 
 // Replaces the contents of `pairs` with the opening brackets in text order, each with its closing bracket.
-// Stops at an opening bracket that no longer fits on the stack. Returns whether any pair was found.
+// Stops at an opening bracket that no longer fits on the stack.
 fn find_pairs(
     kinds: &[BracketType],
     types: &[BidiClass],
     openers: &mut Vec<Opener>,
     pairs: &mut Vec<BracketPair>,
-) -> Result<bool, AllocError>
+) -> Result<(), AllocError>
     requires { length kinds.now ≡ length types.now }
     ensures pairs { OnOk result ((look : ℕ → Option Bracket) (text : List ℕ)
         → kinds.now ≡ bracket_types look text
@@ -162,18 +157,15 @@ fn find_pairs(
         ≡ closers_of (pairs_of look text types.now) (length types.now)) }
     ensures order { OnOk result (AreInOrder pairs.new.items (length types.now)) }
     ensures nested { OnOk result (AreNested types.now (closers_by pairs.new.items (length types.now))) }
-    ensures none { IfOk result (λ has_pairs. has_pairs ≡ false
-        → closers_by pairs.new.items (length types.now) ≡ closers_of [] (length types.now)) }
 {
     openers.clear();
     pairs.clear();
-    let mut has_pairs = false;
     let mut place = next_bracket(kinds, 0);
     while place < types.len() {
         match bracket_in(kinds[place], types[place]) {
             BracketType::Opening(pair) => {
                 if openers.len() >= MAX_OPENERS {
-                    return Ok(has_pairs);
+                    return Ok(());
                 }
                 let index = pairs.len();
                 openers.push(Opener { index, pair })?;
@@ -183,13 +175,13 @@ fn find_pairs(
                 })?;
             }
             BracketType::Closing(closer) => {
-                has_pairs |= close(openers, pairs, closer, place);
+                close(openers, pairs, closer, place);
             }
             BracketType::Other => {}
         }
         place = next_bracket(kinds, place + 1);
     }
-    Ok(has_pairs)
+    Ok(())
 }
 
 // Returns the index of the first strong type in `from..limit` with a given direction: L if `left` is true, or

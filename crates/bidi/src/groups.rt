@@ -24,48 +24,7 @@ fn copy_front(from: &[BidiClass], to: &mut [BidiClass])
     requires { length from.now ≤ length to.old }
     ensures { take (length from.now) to.new ≡ from.now }
 {
-    copy(from, &mut to[..from.len()]);
-}
-
-fn copy(from: &[BidiClass], to: &mut [BidiClass])
-    requires { length to.old ≡ length from.now }
-    ensures { to.new ≡ from.now }
-{
-    if from.len() < GROUP {
-        copy_each(from, to);
-    } else {
-        copy_groups(from, to, GROUP);
-    }
-}
-
-// Does the same as `copy`, in groups of `group` classes.
-#[inline(always)]
-fn copy_groups(from: &[BidiClass], to: &mut [BidiClass], group: usize)
-    requires same { length to.old ≡ length from.now }
-    requires exact { group ≡ 16 }
-    requires enough { group ≤ length from.now }
-    ensures { to.new ≡ from.now }
-{
-    let last = from.len() - group;
-    let mut at = 0;
-    while at < last {
-        copy_group(&from[at..at + group], &mut to[at..at + group]);
-        at += group;
-    }
-    copy_group(&from[last..], &mut to[last..]);
-}
-
-// Does the same as `copy` for one group. LLVM does not know that the lists are different, so the classes go
-// through a local array: all of them are read before the first is written.
-#[inline(always)]
-fn copy_group(from: &[BidiClass], to: &mut [BidiClass])
-    requires same { length to.old ≡ length from.now }
-    requires exact { length from.now ≡ 16 }
-    ensures { to.new ≡ from.now }
-{
-    let mut group = [BidiClass::L; GROUP];
-    copy_each(from, &mut group);
-    copy_each(&group, to);
+    to[..from.len()].copy_from_slice(from);
 }
 
 /// Writes classes to a list of the same length, one after another.

@@ -12,7 +12,7 @@ use crate::bracket_type::BracketType;
 use crate::classes::is_removed;
 use crate::explicit::{Stayed, explicit};
 use crate::groups::copy_to_front;
-use crate::isolates::{Isolates, direct, find_or_keep_matches};
+use crate::isolates::{Isolates, direct, find_matches};
 use crate::sequence_levels::{Brackets, Paragraph, Sequence, Sides, resolve_runs, resolve_types};
 use crate::sequences::direction;
 use std::alloc::{AllocError, Global};
@@ -67,24 +67,21 @@ impl Lists {
     }
 }
 
-// Finds the levels of the characters that X9 keeps. If `is_found` is true, `lists` already holds the matches
-// of the isolate initiators.
+// Finds the levels of the characters that X9 keeps.
 fn resolve_stayed(
     brackets: &Brackets<'_>,
     base: u8,
     stayed: &Stayed,
-    is_found: bool,
     lists: &mut Lists,
 ) -> Result<(), AllocError>
     requires stayed { HasAll stayed.now }
-    requires found { is_found ≡ true
-        → lists.old.isolates.found.items ≡ matches_of stayed.now.classes.items }
     requires brackets { AreFor brackets.now (length stayed.now.levels.items) }
     ensures { OnOk result (OfAllTexts brackets.now (length stayed.now.levels.items) (λ look text.
         lists.new.resolved.items ≡ resolved look base text stayed.now.classes.items stayed.now.levels.items
         stayed.now.types.items)) }
 {
-    find_or_keep_matches(&stayed.classes, is_found, &mut lists.isolates)?;
+    let isolates = &mut lists.isolates;
+    find_matches(&stayed.classes, &mut isolates.found, &mut isolates.pending)?;
     lists.continued.clear();
     lists.continued.resize(stayed.levels.len(), false)?;
     lists.resolved.clear();
@@ -164,24 +161,13 @@ fn put_back(
     Ok(())
 }
 
-// Returns whether the matches are known and X9 removed nothing. If so, the known matches are also those of
-// the kept characters.
-fn are_still_found(is_found: bool, stayed: &[BidiClass], acting: &[BidiClass]) -> bool
-    ensures { result ≡ true → (is_found ≡ true) × (length stayed.now ≡ length acting.now) }
-{
-    is_found && stayed.len() == acting.len()
-}
-
 /// Finds the levels of a paragraph (X1 to I2) from its classes, in which each FSI is already replaced by LRI
-/// or RLI. If `is_found` is true, `work` already holds the matches of the paragraph's isolate initiators.
+/// or RLI.
 pub(crate) fn resolve_acting(
     paragraph: &Classified<'_>,
-    is_found: bool,
     work: &mut Work,
     levels: &mut Vec<u8>,
 ) -> Result<(), AllocError>
-    requires found { is_found ≡ true
-        → work.old.lists.isolates.found.items ≡ matches_of paragraph.now.classes.now }
     requires low { paragraph.now.base ≤ 1 }
     requires brackets { AreFor paragraph.now.brackets (length paragraph.now.classes.now) }
     ensures { OnOk result (OfAllTexts paragraph.now.brackets (length paragraph.now.classes.now) (λ look text.
@@ -191,12 +177,11 @@ pub(crate) fn resolve_acting(
     let base = paragraph.base;
     explicit(acting, base, &mut work.stayed)?;
     any_stayed_brackets(&paragraph.brackets, acting, &mut work.brackets)?;
-    let is_found = are_still_found(is_found, &work.stayed.classes, acting);
     let brackets = Brackets {
         types: &work.brackets,
         ..paragraph.brackets
     };
-    resolve_stayed(&brackets, base, &work.stayed, is_found, &mut work.lists)?;
+    resolve_stayed(&brackets, base, &work.stayed, &mut work.lists)?;
     put_back(acting, base, &work.lists.resolved, levels)?;
     Ok(())
 }
@@ -214,12 +199,12 @@ pub(crate) fn resolve_classes(
     ensures { OnOk result (OfAllTexts paragraph.now.brackets (length paragraph.now.classes.now) (λ look text.
         levels.new.items ≡ paragraph_levels look text paragraph.now.classes.now paragraph.now.base)) }
 {
-    let is_found = direct(paragraph.classes, &mut work.lists.isolates, acting)?;
+    direct(paragraph.classes, &mut work.lists.isolates, acting)?;
     let paragraph = Classified {
         classes: acting,
         ..*paragraph
     };
-    resolve_acting(&paragraph, is_found, work, levels)
+    resolve_acting(&paragraph, work, levels)
 }
 
 /// Finds the levels of a paragraph that has no openers, no closers and no characters that X9 removes. Such a

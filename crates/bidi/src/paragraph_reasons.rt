@@ -135,7 +135,7 @@ fn with_steps(
 {
     let mut isolates = Isolates::new(alloc);
     let mut acting = Vec::new(alloc);
-    let _is_found = direct(classes, &mut isolates, &mut acting)?;
+    direct(classes, &mut isolates, &mut acting)?;
     let explicit = explicit_steps(alloc, &acting, base)?;
     let kept = kept_indices(alloc, &acting)?;
     let sequences = sequences_by(alloc, kinds, &acting, base)?;

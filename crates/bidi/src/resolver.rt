@@ -10,7 +10,6 @@ ghost use Rattle.ucd.specs.declared.properties.Properties.{Properties};
 ghost use Rattle.bidi.specs.declared.bracket_type.BracketType.TheVariants.{Other};
 ghost use Rattle.bidi.specs.Base.{base_level_of};
 ghost use Rattle.bidi.specs.BracketTypes.{bracket_types, is_bracket, type_by};
-ghost use Rattle.bidi.specs.KnownBrackets.{AreKnown};
 ghost use Rattle.ucd.specs.Classes.{class_in};
 ghost use Rattle.bidi.specs.Levels.{levels_of, paragraph_levels};
 ghost use Rattle.bidi.specs.Paragraphs.{AreFor, OfAllTexts};
@@ -112,19 +111,13 @@ fn are_classes_flat(classes: &[BidiClass], base: u8) -> bool
     flat
 }
 
-// The group size for paragraphs shorter than `GROUP`. In paragraphs shorter than `SMALL_GROUP`, characters
-// are tested one by one.
-const SMALL_GROUP: usize = 8;
-
 // Returns whether the classes in the properties are all flat, so that all levels equal the base level.
 fn are_flat_by(properties: &[Properties], base: u8) -> bool
     requires { base ≤ 1 }
     ensures { result ≡ list_all (λ one. is_flat_at base (class_in one)) properties.now }
 {
-    if properties.len() < SMALL_GROUP {
+    if properties.len() < GROUP {
         are_few_flat(properties, base)
-    } else if properties.len() < GROUP {
-        are_groups_flat(properties, base, SMALL_GROUP)
     } else {
         are_groups_flat(properties, base, GROUP)
     }
@@ -342,54 +335,10 @@ fn put_brackets(
     requires others { brackets.old ≡ replicate (length text.now) Other }
     ensures { brackets.new ≡ bracket_types (bracket_of tables.now) text.now }
 {
-    let mut known = Known::new(tables);
     let mut at = next_bracket(properties, 0);
     while at < text.len() {
-        brackets[at] = known.look_up(tables, text[at]);
+        brackets[at] = bracket_type(tables, text[at]);
         at = next_bracket(properties, at + 1);
-    }
-}
-
-// A cache of the bracket types of two characters. `first` is the character that was last looked up in the
-// tables. Most texts use only one kind of bracket.
-#[derive(Clone, Copy)]
-struct Known {
-    first: char,
-    first_type: BracketType,
-    second: char,
-    second_type: BracketType,
-}
-
-impl Known {
-    fn new(tables: &Tables) -> Known
-        ensures { AreKnown tables.now result }
-    {
-        let other = bracket_type(tables, '\0');
-        Known {
-            first: '\0',
-            first_type: other,
-            second: '\0',
-            second_type: other,
-        }
-    }
-
-    fn look_up(&mut self, tables: &Tables, character: char) -> BracketType
-        requires { AreKnown tables.now self.old }
-        ensures found { result ≡ type_by (bracket_of tables.now character) character }
-        ensures known { AreKnown tables.now self.new }
-    {
-        if character == self.first {
-            return self.first_type;
-        }
-        if character == self.second {
-            return self.second_type;
-        }
-        let found = bracket_type(tables, character);
-        self.second = self.first;
-        self.second_type = self.first_type;
-        self.first = character;
-        self.first_type = found;
-        found
     }
 }
 

@@ -91,26 +91,13 @@ fn next_lead(bytes: &[u8]) -> usize
     ensures before { (k : ℕ) → k < result → leads_at bytes.now k ≡ false }
     ensures here { result < length bytes.now → leads_at bytes.now result ≡ true }
 {
-    // Shortcut for a run of separators: tests one position, not a whole block, for each separator.
-    if bytes.is_empty() || is_lead(bytes, 0) {
-        return 0;
-    }
-    let mut at = 1;
+    let mut at = 0;
     while at + BLOCK <= bytes.len() {
         let first = first_lead(&bytes[at..at + BLOCK]);
         if first < AT_ONCE {
             return at + first;
         }
         at += AT_ONCE;
-    }
-    if bytes.len() >= BLOCK {
-        // The last block may overlap the one before.
-        let last = bytes.len() - BLOCK;
-        let first = first_lead(&bytes[last..last + BLOCK]);
-        if first < AT_ONCE {
-            return last + first;
-        }
-        at = last + AT_ONCE;
     }
     while at < bytes.len() && !is_lead(bytes, at) {
         at += 1;
@@ -155,14 +142,7 @@ fn is_lead(bytes: &[u8], at: usize) -> bool
     requires { at < length bytes.now }
     ensures { result ≡ leads_at bytes.now at }
 {
-    let first = bytes[at];
-    if first < 0x20 {
-        return true;
-    }
-    if first != 0xc2 && first != 0xe2 {
-        return false;
-    }
-    may_lead(first, byte_at(bytes, at + 1), byte_at(bytes, at + 2))
+    may_lead(bytes[at], byte_at(bytes, at + 1), byte_at(bytes, at + 2))
 }
 
 // Returns the byte at an index, or 0 past the end.

@@ -4,6 +4,6 @@ use Rattle.bidi.proofs.groups.copy_front.Goals as goal
 
 pub returns : goal.returns
 returns c =
-    let ys = c.copy.new.to in
+    let ys = c.copy_from_slice.new.self in
     let rest = drop (length c.args.from.now) c.args.to.now in
-    ap (λ n. take n (ys ++ rest)) (sym (ap length c.copy.ensures)) ∙ take-append_seam ys rest ∙ c.copy.ensures
+    ap (λ n. take n (ys ++ rest)) (sym (ap length c.copy_from_slice.ensures.after)) ∙ take-append_seam ys rest ∙ c.copy_from_slice.ensures.after

@@ -14,8 +14,6 @@ use Rattle.bidi.specs.Paragraphs.{AreBracketsOf}
 use Rattle.bidi.proofs.BracketTypeLemmas.{types-kept}
 use Rattle.bidi.proofs.PartLemmas.{All-kept}
 use Rattle.bidi.proofs.ExplicitLemmas.{kept_all}
-use Rattle.bidi.specs.Isolates.{matches_of}
-use Rattle.bidi.proofs.ReuseLemmas.{all_stay}
 use Rattle.bidi.proofs.levels.resolve_acting.Goals as goal
 
 -- putting back the characters that X9 removed results in the levels of the paragraph
@@ -38,16 +36,8 @@ pub resolve_stayed-requires-clause-brackets : goal.resolve_stayed-requires-claus
 resolve_stayed-requires-clause-brackets c = λ any.
     let p = c.args.paragraph.now in
     let kept : IsStayed p.classes.now p.base c.explicit.new.stayed = c.in_ok-explicit.ensures in
-    ap length (c.deref-2.ensures.value ∙ c.in_ok-any_stayed_brackets.ensures any) ∙ length-map (stayed p.classes.now) (bracket_at p.brackets.types.now)
+    ap length (c.deref.ensures.value ∙ c.in_ok-any_stayed_brackets.ensures any) ∙ length-map (stayed p.classes.now) (bracket_at p.brackets.types.now)
     ∙ sym (ap length kept.levels_are ∙ length-map (stayed p.classes.now) (level_at p.base p.classes.now))
-
-pub resolve_stayed-requires-clause-found : goal.resolve_stayed-requires-clause-found
-resolve_stayed-requires-clause-found c = λ found.
-    let kept : IsStayed c.args.paragraph.now.classes.now c.args.paragraph.now.base c.explicit.new.stayed = c.in_ok-explicit.ensures in
-    let both = c.are_still_found-is_found.ensures found in
-    let all : c.explicit.new.stayed.classes.items ≡ c.args.paragraph.now.classes.now =
-    all_stay c.args.paragraph.now.classes.now c.explicit.new.stayed.classes.items kept.classes_are (sym (ap length c.deref.ensures.value) ∙ both.1) in
-    c.requires.found both.0 ∙ ap matches_of (sym all)
 
 pub returns : goal.returns
 returns c look text are =
@@ -57,12 +47,12 @@ returns c look text are =
     let sized : length text ≡ length p.classes.now = are.size in
     let part = map (slice_index text) places in
     let test : ℕ → Bool = λ k. not (is_removed (class_at p.classes.now k)) in
-    let parts : AreBracketsOf (record { types = c.deref-2.result; has_any = p.brackets.has_any }) (length c.explicit.new.stayed.levels.items) look part = record {
+    let parts : AreBracketsOf (record { types = c.deref.result; has_any = p.brackets.has_any }) (length c.explicit.new.stayed.levels.items) look part = record {
       size = length-map places (slice_index text) ∙ sym (ap length kept.levels_are ∙ length-map places (level_at p.base p.classes.now));
-      types = λ any. c.deref-2.ensures.value ∙ c.in_ok-any_stayed_brackets.ensures any
+      types = λ any. c.deref.ensures.value ∙ c.in_ok-any_stayed_brackets.ensures any
           ∙ ap (λ types. map (bracket_at types) places) (are.types any) ∙ sym (types-kept look text test 0 (length p.classes.now) (omega arith));
       none = λ none. All-kept (λ b. look b ≡ None) text (length p.classes.now) test sized (are.none none);
     } in
     c.in_ok-put_back.ensures
-    ∙ ap (put_back p.base p.classes.now) c.deref-3.ensures.value
+    ∙ ap (put_back p.base p.classes.now) c.deref-2.ensures.value
     ∙ all_levels look text p.classes.now p.base part c.explicit.new.stayed _ kept refl (c.in_ok-resolve_stayed.ensures look part parts)
