@@ -46,7 +46,7 @@ mod RunLemmas
 mod SequenceStartLemmas
 mod SequenceStepLemmas
 pub mod TextCutLemmas
-pub mod ToldLemmas
+pub mod LookedUpLemmas
 mod WaitingLemmas
 mod WeakLemmas
 mod WeakStateLemmas

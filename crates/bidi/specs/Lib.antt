@@ -23,7 +23,7 @@ pub mod Rows
 pub mod Runs
 pub mod SequenceSteps
 pub mod Sequences
-pub mod Stayed
+pub mod Retained
 pub mod TextCuts
 pub mod Waiting
 pub mod Weak

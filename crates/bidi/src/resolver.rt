@@ -18,7 +18,6 @@ ghost use Rattle.bidi.specs.Plain.{has_bracket_in, is_flat, is_flat_at, is_flat_
 use crate::base::{Base, base_level_by, base_level_of};
 use crate::bracket_type::{BracketType, bracket_type, is_bracket, next_bracket};
 use crate::fill::lengthen;
-use crate::groups::{GROUP, copy_each};
 use crate::levels::{Classified, Work, resolve_classes, resolve_plain};
 use crate::sequence_levels::Brackets;
 use std::alloc::{AllocError, Global};
@@ -110,6 +109,11 @@ fn are_classes_flat(classes: &[BidiClass], base: u8) -> bool
     }
     flat
 }
+
+// The number of characters in a group. The compiler knows how often a loop over a group runs, so it can
+// vectorize the loop without a branch. If a length is not a multiple of `GROUP`, the last group overlaps the
+// group before it: visiting a few characters twice costs less than a mispredicted branch.
+const GROUP: usize = 16;
 
 // Returns whether the classes in the properties are all flat, so that all levels equal the base level.
 fn are_flat_by(properties: &[Properties], base: u8) -> bool
@@ -272,6 +276,17 @@ fn put_group(properties: &[Properties], classes: &mut [BidiClass]) -> Summary
     let summary = put_inlined(properties, &mut group);
     copy_each(&group, classes);
     summary
+}
+
+// Writes classes to a list of the same length, one after another.
+#[inline(always)]
+fn copy_each(from: &[BidiClass], to: &mut [BidiClass])
+    requires { length to.old ≡ length from.now }
+    ensures { to.new ≡ from.now }
+{
+    for at in 0..from.len() {
+        to[at] = from[at];
+    }
 }
 
 // Does the same as `put_classes`, without groups.
