@@ -99,6 +99,15 @@ fn next_lead(bytes: &[u8]) -> usize
         }
         at += AT_ONCE;
     }
+    if bytes.len() >= BLOCK {
+        // The last block may overlap the one before.
+        let last = bytes.len() - BLOCK;
+        let first = first_lead(&bytes[last..last + BLOCK]);
+        if first < AT_ONCE {
+            return last + first;
+        }
+        at = last + AT_ONCE;
+    }
     while at < bytes.len() && !is_lead(bytes, at) {
         at += 1;
     }
