@@ -44,6 +44,7 @@ def sample():
         return file.read()
 
 
+LEVELS = "--nobreak --novisual --levels"
 SHORT = text([*ENGLISH, *HEBREW], 40_000, mean=40)
 EDITS = ["insert {pos} x", "insert {pos} שלום", "delete {pos} 2", "insert {pos} a\\nb"]
 QUERIES = """caret {pos}|hit {line} 40|edge {pos} after|step {pos} before right|at {line} 40|ends {line}|cluster {pos}|clusters {line}|word {pos}|
@@ -65,8 +66,12 @@ WORKLOADS = {
         "CR LF": Run("--width 80", text(MIXED, 120_000, end="\r\n")),
         "whole numbers": Run("--width 80 --whole-numbers --show-spaces", text([*ENGLISH, "$1,234.56  "], 150_000)),
         "position maps": Run("--width 80 --ltov --vtol --reordernsm", text([*MIXED, *CLUSTERS], 60_000)),
-        "levels": Run("--nobreak --novisual --levels", text(MIXED, 120_000)),
-        "English levels": Run("--nobreak --novisual --levels", text(ENGLISH, 300_000)),
+        "levels": Run(LEVELS, text(MIXED, 120_000)),
+        "English levels": Run(LEVELS, text(ENGLISH, 300_000)),
+        "levels of repeated brackets": Run(LEVELS, "א(a)" * 15_000),
+        "levels of repeated embeddings": Run(LEVELS, "\u202b\u202a" * 15_000),
+        "levels of repeated isolates": Run(LEVELS, "\u2067\u2066" * 15_000),
+        "levels of FSI alone": Run(LEVELS, "\u2068" * 30_000),
         "base directions": Run("--novisual --basedir", text(MIXED, 400_000)),
         "mixed, Unicode 17.0": Run("--width 80 --unicode 17.0", text(MIXED, 120_000), tables="ucd-17.0"),
         "English, Unicode 17.0": Run("--width 80 --unicode 17.0", text(ENGLISH, 200_000), tables="ucd-17.0"),
