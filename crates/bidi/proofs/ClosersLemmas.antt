@@ -240,16 +240,18 @@ AreInOrder-closed found openers pairs place k order =
     }
 
 -- the state of the pass after k characters, for all texts with these bracket types
-pub record AreFound (kinds : List BracketType) (types : List BidiClass) (k : ℕ) (openers : List Opener) (pairs : List BracketPair) : Type 0 where
+pub record AreFound (kinds : List BracketType) (types : List BidiClass) (k : ℕ) (openers : List Opener) (pairs : List BracketPair) (has_pairs : Bool) : Type 0 where
   pub order : AreInOrder pairs k
   pub indices : (m : ℕ) → m < length openers → index_of openers m < length pairs
+  pub none : has_pairs ≡ false → closers_by pairs (length types) ≡ closers_of [] (length types)
   pub walks : (look : ℕ → Option Bracket) (text : List ℕ) → kinds ≡ bracket_types look text
       → Walks look text types k (places_in pairs openers) openers (closers_by pairs (length types))
 
-pub AreFound-start : (kinds : List BracketType) (types : List BidiClass) → AreFound kinds types 0 [] []
+pub AreFound-start : (kinds : List BracketType) (types : List BidiClass) → AreFound kinds types 0 [] [] false
 AreFound-start kinds types = record {
   order = AreInOrder-start;
   indices = λ m within. absurd (omega arith);
+  none = λ e. refl;
   walks = λ look text are. Walks-start look text types;
 }
 

@@ -42,11 +42,12 @@ mod PartnerLemmas
 mod PiecesLemmas
 mod PlainLemmas
 mod ResolverLemmas
+mod ReuseLemmas
 mod RunLemmas
 mod SequenceStartLemmas
 mod SequenceStepLemmas
 pub mod TextCutLemmas
-pub mod LookedUpLemmas
+pub mod ToldLemmas
 mod WaitingLemmas
 mod WeakLemmas
 mod WeakStateLemmas

@@ -8,6 +8,7 @@ pub mod Cuts
 pub mod Doubling
 pub mod Explicit
 pub mod Isolates
+pub mod KnownBrackets
 pub mod LevelReasons
 pub mod Levels
 pub mod Neighbours
@@ -23,7 +24,7 @@ pub mod Rows
 pub mod Runs
 pub mod SequenceSteps
 pub mod Sequences
-pub mod Retained
+pub mod Stayed
 pub mod TextCuts
 pub mod Waiting
 pub mod Weak

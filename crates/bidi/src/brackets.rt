@@ -78,19 +78,21 @@ pub(crate) fn matching(openers: &[Opener], closer: u32) -> Option<usize>
 }
 
 // Pairs the closing bracket at `place` with the newest opening bracket that it matches, if any. Removes that
-// bracket and all newer ones from the stack.
-fn close(openers: &mut Vec<Opener>, pairs: &mut [BracketPair], closer: u32, place: usize)
+// bracket and all newer ones from the stack. Returns whether a match was found.
+fn close(openers: &mut Vec<Opener>, pairs: &mut [BracketPair], closer: u32, place: usize) -> bool
     requires { (m : ℕ) → m < length openers.old.items → index_of openers.old.items m < length pairs.old }
     ensures openers { openers.new.items ≡ left_by (newest openers.old.items closer) openers.old.items }
     ensures pairs { pairs.new
         ≡ closed_by (newest openers.old.items closer) openers.old.items pairs.old place }
+    ensures none { result ≡ false → newest openers.old.items closer ≡ None }
 {
     match matching(openers, closer) {
         Some(held) => {
             pairs[openers[held].index].closer = place;
             openers.truncate(held);
+            true
         }
-        None => {}
+        None => false,
     }
 }
 
@@ -127,7 +129,10 @@ impl Pairs {
             → kinds.now ≡ bracket_types look text
             → types.new ≡ brackets look embedding sos text explicit.now types.old) }
     {
-        find_pairs(kinds, types, &mut self.openers, &mut self.found)?;
+        let has_pairs = find_pairs(kinds, types, &mut self.openers, &mut self.found)?;
+        if !has_pairs {
+            return Ok(());
+        }
         copy_types(types, &mut self.before)?;
         resolve_brackets(types, &self.before, explicit, &self.found, embedding, sos);
         Ok(())
@@ -143,13 +148,13 @@ pub(crate) fn copy_types(from: &[BidiClass], to: &mut Vec<BidiClass>) -> Result<
 }
 
 // Replaces the contents of `pairs` with the opening brackets in text order, each with its closing bracket.
-// Stops at an opening bracket that no longer fits on the stack.
+// Stops at an opening bracket that no longer fits on the stack. Returns whether any pair was found.
 fn find_pairs(
     kinds: &[BracketType],
     types: &[BidiClass],
     openers: &mut Vec<Opener>,
     pairs: &mut Vec<BracketPair>,
-) -> Result<(), AllocError>
+) -> Result<bool, AllocError>
     requires { length kinds.now ≡ length types.now }
     ensures pairs { OnOk result ((look : ℕ → Option Bracket) (text : List ℕ)
         → kinds.now ≡ bracket_types look text
@@ -157,15 +162,18 @@ fn find_pairs(
         ≡ closers_of (pairs_of look text types.now) (length types.now)) }
     ensures order { OnOk result (AreInOrder pairs.new.items (length types.now)) }
     ensures nested { OnOk result (AreNested types.now (closers_by pairs.new.items (length types.now))) }
+    ensures none { IfOk result (λ has_pairs. has_pairs ≡ false
+        → closers_by pairs.new.items (length types.now) ≡ closers_of [] (length types.now)) }
 {
     openers.clear();
     pairs.clear();
+    let mut has_pairs = false;
     let mut place = next_bracket(kinds, 0);
     while place < types.len() {
         match bracket_in(kinds[place], types[place]) {
             BracketType::Opening(pair) => {
                 if openers.len() >= MAX_OPENERS {
-                    return Ok(());
+                    return Ok(has_pairs);
                 }
                 let index = pairs.len();
                 openers.push(Opener { index, pair })?;
@@ -175,13 +183,13 @@ fn find_pairs(
                 })?;
             }
             BracketType::Closing(closer) => {
-                close(openers, pairs, closer, place);
+                has_pairs |= close(openers, pairs, closer, place);
             }
             BracketType::Other => {}
         }
         place = next_bracket(kinds, place + 1);
     }
-    Ok(())
+    Ok(has_pairs)
 }
 
 // Returns the index of the first strong type in `from..limit` with a given direction: L if `left` is true, or

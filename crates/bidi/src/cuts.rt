@@ -53,7 +53,7 @@ fn first_separator(text: &[char]) -> usize
 }
 
 // Returns the length of a prefix of the text in which no character may end a paragraph. Long texts are tested
-// in blocks.
+// in blocks, and the last block may overlap the one before.
 fn plain_len(text: &[char]) -> usize
     ensures within { result ≤ length text.now }
     ensures before { AreNoSeparators text.now result }
@@ -64,6 +64,9 @@ fn plain_len(text: &[char]) -> usize
             return at + first_separator(&text[at..]);
         }
         at += BLOCK;
+    }
+    if text.len() >= BLOCK && !any_may_separate(&text[text.len() - BLOCK..]) {
+        return text.len();
     }
     at + first_separator(&text[at..])
 }

@@ -2,12 +2,14 @@
 //! strong character inside it (X5c).
 ghost use Rattle.std.specs.Prelude.{◌≡◌, ◌+◌, ◌-◌, ◌<◌, ◌==◌, true, IfOk, OnOk, if◌then◌else◌};
 ghost use Rattle.std.specs.Prelude.{length, take, slice_index, slice_set};
+ghost use Rattle.std.specs.List.{list_any};
 ghost use Rattle.bidi.specs.Base.{first_strong_level};
 ghost use Rattle.ucd.specs.Classes.{class_at, is_initiator};
 ghost use Rattle.bidi.specs.Explicit.{directed, directed_at, is_first_strong, span_of};
 ghost use Rattle.bidi.specs.Isolates.{matches_of};
 
 use crate::base::strong_level;
+use crate::brackets::copy_types;
 use crate::classes::{is_initiator, is_pdi};
 use std::alloc::{AllocError, Global};
 use ucd::BidiClass;
@@ -53,6 +55,23 @@ pub(crate) fn find_matches(
     Ok(())
 }
 
+/// Finds the matching PDI of each isolate initiator in a list of classes, unless the matches are already
+/// known.
+pub(crate) fn find_or_keep_matches(
+    classes: &[BidiClass],
+    is_found: bool,
+    isolates: &mut Isolates,
+) -> Result<(), AllocError>
+    requires { is_found ≡ true → isolates.old.found.items ≡ matches_of classes.now }
+    ensures matches { OnOk result (isolates.new.found.items ≡ matches_of classes.now) }
+    ensures length { OnOk result (length isolates.new.found.items ≡ length classes.now) }
+{
+    if is_found {
+        return Ok(());
+    }
+    find_matches(classes, &mut isolates.found, &mut isolates.pending)
+}
+
 // Matches the last pending initiator, if there is one, with the PDI at `at`, and removes it from `pending`.
 fn close(found: &mut [usize], pending: &mut Vec<usize>, at: usize)
     requires { 0 < length pending.old.items
@@ -66,21 +85,34 @@ fn close(found: &mut [usize], pending: &mut Vec<usize>, at: usize)
     }
 }
 
-/// Writes the classes of a paragraph to `acting`, with each FSI replaced by LRI or RLI (X5c).
+/// Writes the classes of a paragraph to `acting`, with each FSI replaced by LRI or RLI (X5c). Returns whether
+/// `isolates` now holds the matches of the initiators. The replacement does not change the matches.
 pub(crate) fn direct(
     classes: &[BidiClass],
     isolates: &mut Isolates,
     acting: &mut Vec<BidiClass>,
-) -> Result<(), AllocError>
-    ensures { OnOk result (acting.new.items ≡ directed classes.now) }
+) -> Result<bool, AllocError>
+    ensures acting { OnOk result (acting.new.items ≡ directed classes.now) }
+    ensures found { IfOk result (λ found. found ≡ true
+        → isolates.new.found.items ≡ matches_of acting.new.items) }
 {
+    if !has_first_strong(classes) {
+        copy_types(classes, acting)?;
+        return Ok(false);
+    }
     find_matches(classes, &mut isolates.found, &mut isolates.pending)?;
     acting.clear();
     acting.reserve(classes.len())?;
     for at in 0..classes.len() {
         acting.push(acting_class(classes, &isolates.found, at))?;
     }
-    Ok(())
+    Ok(true)
+}
+
+fn has_first_strong(classes: &[BidiClass]) -> bool
+    ensures { result ≡ list_any is_first_strong classes.now }
+{
+    classes.iter().any(|class| is_first_strong(*class))
 }
 
 fn is_first_strong(class: BidiClass) -> bool

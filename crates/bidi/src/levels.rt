@@ -5,14 +5,14 @@ ghost use Rattle.bidi.specs.Isolates.{matches_of};
 ghost use Rattle.bidi.specs.Levels.{levels_by, paragraph_levels, put_back, resolved};
 ghost use Rattle.bidi.specs.Paragraphs.{AreFor, OfAllTexts};
 ghost use Rattle.bidi.specs.Plain.{is_plain};
-ghost use Rattle.bidi.specs.Sequences.{retained};
-ghost use Rattle.bidi.specs.Retained.{HasAll};
+ghost use Rattle.bidi.specs.Sequences.{stayed};
+ghost use Rattle.bidi.specs.Stayed.{HasAll};
 
 use crate::bracket_type::BracketType;
-use crate::brackets::copy_types;
 use crate::classes::is_removed;
-use crate::explicit::{Retained, explicit};
-use crate::isolates::{Isolates, direct, find_matches};
+use crate::explicit::{Stayed, explicit};
+use crate::groups::copy_to_front;
+use crate::isolates::{Isolates, direct, find_or_keep_matches};
 use crate::sequence_levels::{Brackets, Paragraph, Sequence, Sides, resolve_runs, resolve_types};
 use crate::sequences::direction;
 use std::alloc::{AllocError, Global};
@@ -30,7 +30,7 @@ pub(crate) struct Classified<'a> {
 /// sequences.
 #[derive(Drop)]
 pub(crate) struct Work {
-    retained: Retained,
+    stayed: Stayed,
     brackets: Vec<BracketType>,
     lists: Lists,
 }
@@ -49,7 +49,7 @@ struct Lists {
 impl Work {
     pub fn new(alloc: Global) -> Work {
         Work {
-            retained: Retained::new(alloc),
+            stayed: Stayed::new(alloc),
             brackets: Vec::new(alloc),
             lists: Lists::new(alloc),
         }
@@ -67,33 +67,32 @@ impl Lists {
     }
 }
 
-// Finds the levels of the characters that X9 keeps.
-fn resolve_retained(
+// Finds the levels of the characters that X9 keeps. If `is_found` is true, `lists` already holds the matches
+// of the isolate initiators.
+fn resolve_stayed(
     brackets: &Brackets<'_>,
     base: u8,
-    retained: &Retained,
+    stayed: &Stayed,
+    is_found: bool,
     lists: &mut Lists,
 ) -> Result<(), AllocError>
-    requires retained { HasAll retained.now }
-    requires brackets { AreFor brackets.now (length retained.now.levels.items) }
-    ensures { OnOk result (OfAllTexts brackets.now (length retained.now.levels.items) (λ look text.
-        lists.new.resolved.items ≡ resolved look base text retained.now.classes.items
-        retained.now.levels.items retained.now.types.items)) }
+    requires stayed { HasAll stayed.now }
+    requires found { is_found ≡ true
+        → lists.old.isolates.found.items ≡ matches_of stayed.now.classes.items }
+    requires brackets { AreFor brackets.now (length stayed.now.levels.items) }
+    ensures { OnOk result (OfAllTexts brackets.now (length stayed.now.levels.items) (λ look text.
+        lists.new.resolved.items ≡ resolved look base text stayed.now.classes.items stayed.now.levels.items
+        stayed.now.types.items)) }
 {
-    let isolates = &mut lists.isolates;
-    find_matches(
-        &retained.classes,
-        &mut isolates.found,
-        &mut isolates.pending,
-    )?;
+    find_or_keep_matches(&stayed.classes, is_found, &mut lists.isolates)?;
     lists.continued.clear();
-    lists.continued.resize(retained.levels.len(), false)?;
+    lists.continued.resize(stayed.levels.len(), false)?;
     lists.resolved.clear();
-    lists.resolved.extend_from_slice(&retained.levels)?;
+    lists.resolved.extend_from_slice(&stayed.levels)?;
     let paragraph = Paragraph {
         brackets: *brackets,
         base,
-        retained,
+        stayed,
         matches: &lists.isolates.found,
     };
     resolve_runs(
@@ -105,13 +104,13 @@ fn resolve_retained(
 }
 
 // Replaces the contents of `brackets` with the bracket types of the characters that X9 keeps.
-pub(crate) fn retained_brackets(
+pub(crate) fn stayed_brackets(
     all: &[BracketType],
     classes: &[BidiClass],
     brackets: &mut Vec<BracketType>,
 ) -> Result<(), AllocError>
     requires { length all.now ≡ length classes.now }
-    ensures { OnOk result (brackets.new.items ≡ map (bracket_at all.now) (retained classes.now)) }
+    ensures { OnOk result (brackets.new.items ≡ map (bracket_at all.now) (stayed classes.now)) }
 {
     brackets.clear();
     brackets.reserve(all.len())?;
@@ -123,20 +122,20 @@ pub(crate) fn retained_brackets(
     Ok(())
 }
 
-// Does the same as `retained_brackets`, but only if the paragraph has any brackets.
-fn any_retained_brackets(
+// Does the same as `stayed_brackets`, but only if the paragraph has any brackets.
+fn any_stayed_brackets(
     all: &Brackets<'_>,
     classes: &[BidiClass],
     brackets: &mut Vec<BracketType>,
 ) -> Result<(), AllocError>
     requires { AreFor all.now (length classes.now) }
     ensures { OnOk result (all.now.has_any ≡ true
-        → brackets.new.items ≡ map (bracket_at all.now.types.now) (retained classes.now)) }
+        → brackets.new.items ≡ map (bracket_at all.now.types.now) (stayed classes.now)) }
 {
     if !all.has_any {
         return Ok(());
     }
-    retained_brackets(all.types, classes, brackets)
+    stayed_brackets(all.types, classes, brackets)
 }
 
 // Replaces the contents of `levels` with the levels of all characters. A character that X9 removed gets the
@@ -165,13 +164,24 @@ fn put_back(
     Ok(())
 }
 
+// Returns whether the matches are known and X9 removed nothing. If so, the known matches are also those of
+// the kept characters.
+fn are_still_found(is_found: bool, stayed: &[BidiClass], acting: &[BidiClass]) -> bool
+    ensures { result ≡ true → (is_found ≡ true) × (length stayed.now ≡ length acting.now) }
+{
+    is_found && stayed.len() == acting.len()
+}
+
 /// Finds the levels of a paragraph (X1 to I2) from its classes, in which each FSI is already replaced by LRI
-/// or RLI.
+/// or RLI. If `is_found` is true, `work` already holds the matches of the paragraph's isolate initiators.
 pub(crate) fn resolve_acting(
     paragraph: &Classified<'_>,
+    is_found: bool,
     work: &mut Work,
     levels: &mut Vec<u8>,
 ) -> Result<(), AllocError>
+    requires found { is_found ≡ true
+        → work.old.lists.isolates.found.items ≡ matches_of paragraph.now.classes.now }
     requires low { paragraph.now.base ≤ 1 }
     requires brackets { AreFor paragraph.now.brackets (length paragraph.now.classes.now) }
     ensures { OnOk result (OfAllTexts paragraph.now.brackets (length paragraph.now.classes.now) (λ look text.
@@ -179,13 +189,14 @@ pub(crate) fn resolve_acting(
 {
     let acting = paragraph.classes;
     let base = paragraph.base;
-    explicit(acting, base, &mut work.retained)?;
-    any_retained_brackets(&paragraph.brackets, acting, &mut work.brackets)?;
+    explicit(acting, base, &mut work.stayed)?;
+    any_stayed_brackets(&paragraph.brackets, acting, &mut work.brackets)?;
+    let is_found = are_still_found(is_found, &work.stayed.classes, acting);
     let brackets = Brackets {
         types: &work.brackets,
         ..paragraph.brackets
     };
-    resolve_retained(&brackets, base, &work.retained, &mut work.lists)?;
+    resolve_stayed(&brackets, base, &work.stayed, is_found, &mut work.lists)?;
     put_back(acting, base, &work.lists.resolved, levels)?;
     Ok(())
 }
@@ -203,12 +214,12 @@ pub(crate) fn resolve_classes(
     ensures { OnOk result (OfAllTexts paragraph.now.brackets (length paragraph.now.classes.now) (λ look text.
         levels.new.items ≡ paragraph_levels look text paragraph.now.classes.now paragraph.now.base)) }
 {
-    direct(paragraph.classes, &mut work.lists.isolates, acting)?;
+    let is_found = direct(paragraph.classes, &mut work.lists.isolates, acting)?;
     let paragraph = Classified {
         classes: acting,
         ..*paragraph
     };
-    resolve_acting(&paragraph, work, levels)
+    resolve_acting(&paragraph, is_found, work, levels)
 }
 
 /// Finds the levels of a paragraph that has no openers, no closers and no characters that X9 removes. Such a
@@ -227,7 +238,7 @@ pub(crate) fn resolve_plain(
     let classes = paragraph.classes;
     let base = paragraph.base;
     let sequence = &mut work.lists.sequence;
-    copy_types(classes, &mut sequence.types)?;
+    copy_to_front(classes, &mut sequence.types)?;
     // All items are overwritten below, so their values do not matter.
     levels.resize(classes.len(), base)?;
     let side = direction(base);
@@ -240,7 +251,7 @@ pub(crate) fn resolve_plain(
         &paragraph.brackets,
         classes,
         sides,
-        &mut sequence.types,
+        &mut sequence.types[..classes.len()],
         &mut sequence.pairs,
         levels,
     )?;

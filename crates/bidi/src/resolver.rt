@@ -10,6 +10,7 @@ ghost use Rattle.ucd.specs.declared.properties.Properties.{Properties};
 ghost use Rattle.bidi.specs.declared.bracket_type.BracketType.TheVariants.{Other};
 ghost use Rattle.bidi.specs.Base.{base_level_of};
 ghost use Rattle.bidi.specs.BracketTypes.{bracket_types, is_bracket, type_by};
+ghost use Rattle.bidi.specs.KnownBrackets.{AreKnown};
 ghost use Rattle.ucd.specs.Classes.{class_in};
 ghost use Rattle.bidi.specs.Levels.{levels_of, paragraph_levels};
 ghost use Rattle.bidi.specs.Paragraphs.{AreFor, OfAllTexts};
@@ -18,6 +19,7 @@ ghost use Rattle.bidi.specs.Plain.{has_bracket_in, is_flat, is_flat_at, is_flat_
 use crate::base::{Base, base_level_by, base_level_of};
 use crate::bracket_type::{BracketType, bracket_type, is_bracket, next_bracket};
 use crate::fill::lengthen;
+use crate::groups::{GROUP, copy_each};
 use crate::levels::{Classified, Work, resolve_classes, resolve_plain};
 use crate::sequence_levels::Brackets;
 use std::alloc::{AllocError, Global};
@@ -110,18 +112,19 @@ fn are_classes_flat(classes: &[BidiClass], base: u8) -> bool
     flat
 }
 
-// The number of characters in a group. The compiler knows how often a loop over a group runs, so it can
-// vectorize the loop without a branch. If a length is not a multiple of `GROUP`, the last group overlaps the
-// group before it: visiting a few characters twice costs less than a mispredicted branch.
-const GROUP: usize = 16;
+// The group size for paragraphs shorter than `GROUP`. In paragraphs shorter than `SMALL_GROUP`, characters
+// are tested one by one.
+const SMALL_GROUP: usize = 8;
 
 // Returns whether the classes in the properties are all flat, so that all levels equal the base level.
 fn are_flat_by(properties: &[Properties], base: u8) -> bool
     requires { base ≤ 1 }
     ensures { result ≡ list_all (λ one. is_flat_at base (class_in one)) properties.now }
 {
-    if properties.len() < GROUP {
+    if properties.len() < SMALL_GROUP {
         are_few_flat(properties, base)
+    } else if properties.len() < GROUP {
+        are_groups_flat(properties, base, SMALL_GROUP)
     } else {
         are_groups_flat(properties, base, GROUP)
     }
@@ -278,17 +281,6 @@ fn put_group(properties: &[Properties], classes: &mut [BidiClass]) -> Summary
     summary
 }
 
-// Writes classes to a list of the same length, one after another.
-#[inline(always)]
-fn copy_each(from: &[BidiClass], to: &mut [BidiClass])
-    requires { length to.old ≡ length from.now }
-    ensures { to.new ≡ from.now }
-{
-    for at in 0..from.len() {
-        to[at] = from[at];
-    }
-}
-
 // Does the same as `put_classes`, without groups.
 fn put_each(properties: &[Properties], classes: &mut [BidiClass]) -> Summary
     requires { length classes.old ≡ length properties.now }
@@ -350,10 +342,54 @@ fn put_brackets(
     requires others { brackets.old ≡ replicate (length text.now) Other }
     ensures { brackets.new ≡ bracket_types (bracket_of tables.now) text.now }
 {
+    let mut known = Known::new(tables);
     let mut at = next_bracket(properties, 0);
     while at < text.len() {
-        brackets[at] = bracket_type(tables, text[at]);
+        brackets[at] = known.look_up(tables, text[at]);
         at = next_bracket(properties, at + 1);
+    }
+}
+
+// A cache of the bracket types of two characters. `first` is the character that was last looked up in the
+// tables. Most texts use only one kind of bracket.
+#[derive(Clone, Copy)]
+struct Known {
+    first: char,
+    first_type: BracketType,
+    second: char,
+    second_type: BracketType,
+}
+
+impl Known {
+    fn new(tables: &Tables) -> Known
+        ensures { AreKnown tables.now result }
+    {
+        let other = bracket_type(tables, '\0');
+        Known {
+            first: '\0',
+            first_type: other,
+            second: '\0',
+            second_type: other,
+        }
+    }
+
+    fn look_up(&mut self, tables: &Tables, character: char) -> BracketType
+        requires { AreKnown tables.now self.old }
+        ensures found { result ≡ type_by (bracket_of tables.now character) character }
+        ensures known { AreKnown tables.now self.new }
+    {
+        if character == self.first {
+            return self.first_type;
+        }
+        if character == self.second {
+            return self.second_type;
+        }
+        let found = bracket_type(tables, character);
+        self.second = self.first;
+        self.second_type = self.first_type;
+        self.first = character;
+        self.first_type = found;
+        found
     }
 }
 

@@ -91,7 +91,11 @@ fn next_lead(bytes: &[u8]) -> usize
     ensures before { (k : ℕ) → k < result → leads_at bytes.now k ≡ false }
     ensures here { result < length bytes.now → leads_at bytes.now result ≡ true }
 {
-    let mut at = 0;
+    // Shortcut for a run of separators: tests one position, not a whole block, for each separator.
+    if bytes.is_empty() || is_lead(bytes, 0) {
+        return 0;
+    }
+    let mut at = 1;
     while at + BLOCK <= bytes.len() {
         let first = first_lead(&bytes[at..at + BLOCK]);
         if first < AT_ONCE {
@@ -151,7 +155,14 @@ fn is_lead(bytes: &[u8], at: usize) -> bool
     requires { at < length bytes.now }
     ensures { result ≡ leads_at bytes.now at }
 {
-    may_lead(bytes[at], byte_at(bytes, at + 1), byte_at(bytes, at + 2))
+    let first = bytes[at];
+    if first < 0x20 {
+        return true;
+    }
+    if first != 0xc2 && first != 0xe2 {
+        return false;
+    }
+    may_lead(first, byte_at(bytes, at + 1), byte_at(bytes, at + 2))
 }
 
 // Returns the byte at an index, or 0 past the end.

@@ -232,13 +232,17 @@ pub(crate) fn reset_line(properties: &[Properties], base: u8, levels: &mut [u8])
     false
 }
 
-// The number of levels that are tested together, as a group. The last group of a list may be shorter.
+// The number of levels that are tested together, as a group. If the length of a list is not a multiple of
+// this number, the last group overlaps the previous group, so that no levels are tested one by one.
 const AT_ONCE: usize = 16;
 
 // Returns whether all levels are 0.
 fn are_zero(levels: &[u8]) -> bool
     ensures { result ≡ true → (k : ℕ) → slice_index levels.now k ≡ 0 }
 {
+    if levels.len() < AT_ONCE {
+        return are_group_zero(levels);
+    }
     let mut at = 0;
     while at + AT_ONCE <= levels.len() {
         if !are_group_zero(&levels[at..at + AT_ONCE]) {
@@ -246,7 +250,7 @@ fn are_zero(levels: &[u8]) -> bool
         }
         at += AT_ONCE;
     }
-    are_group_zero(&levels[at..])
+    are_group_zero(&levels[levels.len() - AT_ONCE..])
 }
 
 #[inline(always)] // so that the loop over a group knows its length
@@ -264,6 +268,9 @@ fn are_group_zero(levels: &[u8]) -> bool
 fn are_even(levels: &[u8]) -> bool
     ensures { result ≡ true → (k : ℕ) → is_odd (slice_index levels.now k) ≡ false }
 {
+    if levels.len() < AT_ONCE {
+        return are_group_even(levels);
+    }
     let mut at = 0;
     while at + AT_ONCE <= levels.len() {
         if !are_group_even(&levels[at..at + AT_ONCE]) {
@@ -271,7 +278,7 @@ fn are_even(levels: &[u8]) -> bool
         }
         at += AT_ONCE;
     }
-    are_group_even(&levels[at..])
+    are_group_even(&levels[levels.len() - AT_ONCE..])
 }
 
 #[inline(always)]

@@ -34,7 +34,8 @@ pub(crate) fn is_whole(text: &Text<'_>) -> bool
     end_no_line(&properties[..properties.len().saturating_sub(1)])
 }
 
-// The number of characters that are tested together, as a group. The last group of a text may be shorter.
+// The number of characters that are tested together, as a group. If the length of a text is not a multiple of
+// this number, the last group overlaps the previous group, so that no characters are tested one by one.
 const AT_ONCE: usize = 16;
 
 // Returns whether none of the characters is of a class after which a line must end. CR counts as such a class
@@ -42,6 +43,9 @@ const AT_ONCE: usize = 16;
 fn end_no_line(properties: &[Properties]) -> bool
     ensures { result ≡ list_all may_go_on properties.now }
 {
+    if properties.len() < AT_ONCE {
+        return end_none(properties);
+    }
     let mut at = 0;
     while at + AT_ONCE <= properties.len() {
         if !end_none(&properties[at..at + AT_ONCE]) {
@@ -49,7 +53,7 @@ fn end_no_line(properties: &[Properties]) -> bool
         }
         at += AT_ONCE;
     }
-    end_none(&properties[at..])
+    end_none(&properties[properties.len() - AT_ONCE..])
 }
 
 // Implements `end_no_line`. The loop has no branches, so the compiler can test several characters at a time.

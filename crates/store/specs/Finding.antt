@@ -2,7 +2,7 @@
 use Rattle.std.specs.Prelude.{◌≡◌, ℕ, ◌+◌, ◌<◌, List, ◌∷◌, ◌++◌, length, take, sum_by}
 use Rattle.store.specs.Sums.{measure, AreSums}
 use Rattle.store.specs.declared.found.Found.{Found}
-use Rattle.store.specs.declared.found.Position.{Position}
+use Rattle.store.specs.declared.found.Place.{Place}
 use Rattle.store.specs.declared.measured.Measured.{Ghosts}
 use Rattle.store.specs.declared.sums.Unit.{Unit as Counted}
 
@@ -32,7 +32,7 @@ pub record CountsBefore {P : Type 0} (bytes utf16 : P → ℕ) (items : List P) 
   pub utf16_before : found.utf16_before ≡ sum_by utf16 (take found.index items)
 
 -- converts a place to a search result
-abbrev pub found_at : Position → Found
+abbrev pub found_at : Place → Found
 found_at place = record {
   index = place.index;
   rest = place.rest;
@@ -45,13 +45,13 @@ found_at place = record {
 
 -- whether the place is that of the character, line, byte or code unit with number n, and `place.before` holds
 -- the sums of the items before the found one
-pub record IsPosition {P : Type 0} (G : Ghosts P) (unit : Counted) (items : List P) (n : ℕ) (place : Position) : Type 0 where
+pub record IsPlace {P : Type 0} (G : Ghosts P) (unit : Counted) (items : List P) (n : ℕ) (place : Place) : Type 0 where
   pub finds : Finds (measure G unit) G.chars G.lines items n (found_at place)
   pub sums : AreSums G finds.before place.before
 
 -- whether the place is the start of the item at an index, and `place.before` holds the sums of the items
 -- before it
-pub record IsItemPosition {P : Type 0} (G : Ghosts P) (items : List P) (index : ℕ) (place : Position) : Type 0 where
+pub record IsItemPlace {P : Type 0} (G : Ghosts P) (items : List P) (index : ℕ) (place : Place) : Type 0 where
   pub index_is : place.index ≡ index
   pub rest : place.rest ≡ 0
   pub sums : AreSums G (take index items) place.before

@@ -26,14 +26,14 @@ pub struct Found {
 /// A search result in the form in which a store computes it. `before` holds the sums of the items before the
 /// found item.
 #[derive(Clone, Copy)]
-pub(crate) struct Position {
+pub(crate) struct Place {
     pub(crate) index: usize,
     pub(crate) rest: usize,
     pub(crate) before: Sums,
     pub(crate) visits: usize,
 }
 
-impl Position {
+impl Place {
     /// Converts the place to a search result.
     pub(crate) fn found(self) -> Found
         ensures { result ≡ found_at self }

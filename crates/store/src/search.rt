@@ -3,11 +3,11 @@ ghost use Rattle.std.specs.Prelude.{◌≡◌, ℕ, ◌+◌, ◌^◌, ◌<◌, �
 ghost use Rattle.std.specs.Prelude.{length, map, sum_by, option_map, slice_get, vec_capacity};
 ghost use Rattle.std.specs.List.{AllZip};
 ghost use Rattle.store.specs.Exchanging.{pairwise, raised, total_cost};
-ghost use Rattle.store.specs.Finding.{IsItemPosition, IsPosition};
+ghost use Rattle.store.specs.Finding.{IsItemPlace, IsPlace};
 ghost use Rattle.store.specs.Sums.{measure};
 ghost use Rattle.store.specs.Trees.{height, in_order, IsBalanced, nodes_to};
 
-use crate::found::Position;
+use crate::found::Place;
 use crate::measured::{Exchanger, Measured};
 use crate::subtree::{Node, Subtree};
 use crate::sums::{Sums, Unit};
@@ -45,9 +45,9 @@ impl<P: Measured> Subtree<P> {
     }
 
     /// Finds the item that contains the character, line, byte or code unit with number `n`.
-    pub(crate) fn find(&self, unit: Unit, n: usize) -> Position
+    pub(crate) fn find(&self, unit: Unit, n: usize) -> Place
         requires { n < sum_by (measure P.Measured unit) (in_order self.now) }
-        ensures found { IsPosition P.Measured unit (in_order self.now) n result }
+        ensures found { IsPlace P.Measured unit (in_order self.now) n result }
         ensures visits { result.visits ≡ nodes_to self.now result.index }
     {
         let Some(node) = &self.root else {
@@ -59,7 +59,7 @@ impl<P: Measured> Subtree<P> {
         let left = node.left.total(unit);
         if n < left {
             let place = node.left.find(unit, n);
-            return Position {
+            return Place {
                 visits: place.visits + 1,
                 ..place
             };
@@ -68,7 +68,7 @@ impl<P: Measured> Subtree<P> {
         let rest = n - left;
         let size = unit.size_of(&node.item);
         if rest < size {
-            return Position {
+            return Place {
                 index,
                 rest,
                 before,
@@ -76,7 +76,7 @@ impl<P: Measured> Subtree<P> {
             };
         }
         let place = node.right.find(unit, rest - size);
-        Position {
+        Place {
             index: index + 1 + place.index,
             rest: place.rest,
             before: before.plus(Sums::of(&node.item)).plus(place.before),
@@ -85,9 +85,9 @@ impl<P: Measured> Subtree<P> {
     }
 
     /// Finds the item at an index.
-    pub(crate) fn find_item(&self, index: usize) -> Position
+    pub(crate) fn find_item(&self, index: usize) -> Place
         requires { index < length (in_order self.now) }
-        ensures found { IsItemPosition P.Measured (in_order self.now) index result }
+        ensures found { IsItemPlace P.Measured (in_order self.now) index result }
         ensures visits { result.visits ≡ nodes_to self.now index }
     {
         let Some(node) = &self.root else {
@@ -99,13 +99,13 @@ impl<P: Measured> Subtree<P> {
         let (count, before) = (node.left.count(), node.left.sums());
         if index < count {
             let place = node.left.find_item(index);
-            return Position {
+            return Place {
                 visits: place.visits + 1,
                 ..place
             };
         }
         if index == count {
-            return Position {
+            return Place {
                 index,
                 rest: 0,
                 before,
@@ -113,7 +113,7 @@ impl<P: Measured> Subtree<P> {
             };
         }
         let place = node.right.find_item(index - count - 1);
-        Position {
+        Place {
             index,
             rest: 0,
             before: before.plus(Sums::of(&node.item)).plus(place.before),

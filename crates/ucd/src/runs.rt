@@ -128,7 +128,7 @@ impl<'a, V: Layer> Cursor<'a, V> {
 
 /// The remaining entries of all files.
 #[derive(Drop)]
-pub struct Cursors<'a> {
+pub struct Left<'a> {
     version: Version,
     default_classes: Cursor<'a, BidiClass>,
     bidi_classes: Cursor<'a, BidiClass>,
@@ -141,14 +141,14 @@ pub struct Cursors<'a> {
     categories: Cursor<'a, Category>,
 }
 
-impl<'a> Cursors<'a> {
+impl<'a> Left<'a> {
     ghost use Rattle.ucd.specs.Runs.{layers_left, AllEndFrom};
     ghost use Rattle.ucd.specs.Said.{said, layers_of};
 
-    fn of(version: Version, entries: &'a Entries) -> Cursors<'a>
+    fn of(version: Version, entries: &'a Entries) -> Left<'a>
         ensures { layers_left result ≡ layers_of version entries.now }
     {
-        Cursors {
+        Left {
             version,
             default_classes: Cursor::of(default_classes(version)),
             bidi_classes: Cursor::new(&entries.bidi.classes),
@@ -211,7 +211,7 @@ impl<'a> Cursors<'a> {
 /// A run, and the entries after it.
 #[derive(Drop)]
 pub struct Runs<'a> {
-    left: Cursors<'a>,
+    left: Left<'a>,
     run: Run,
 }
 
@@ -230,7 +230,7 @@ impl<'a> Runs<'a> {
             properties: Properties::unnamed(),
         };
         Runs {
-            left: Cursors::of(version, entries),
+            left: Left::of(version, entries),
             run,
         }
     }

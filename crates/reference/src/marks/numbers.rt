@@ -6,7 +6,7 @@ use ucd::LineClass;
 
 // How far a list of classes matches `(PR | PO)? (OP | HY)? NU (NU | SY | IS)* (CL | CP)? (PR | PO)?`.
 #[derive(Clone, Copy)]
-enum Part {
+enum Place {
     Start,
     Affix,
     Opening,
@@ -27,7 +27,7 @@ pub fn is_in_number(classes: &[LineClass], place: usize) -> bool {
 
 // Returns whether some number that begins with the base at `start` contains the base at `place`.
 fn begins_number(classes: &[LineClass], start: usize, place: usize) -> bool {
-    let mut at = Part::Start;
+    let mut at = Place::Start;
     for i in start..classes.len() {
         let Some(next) = place_after(at, classes[i]) else {
             return false;
@@ -40,21 +40,21 @@ fn begins_number(classes: &[LineClass], start: usize, place: usize) -> bool {
     false
 }
 
-fn place_after(at: Part, class: LineClass) -> Option<Part> {
+fn place_after(at: Place, class: LineClass) -> Option<Place> {
     match at {
-        Part::Start if has(PR | PO, class) => Some(Part::Affix),
-        Part::Start | Part::Affix if has(OP | HY, class) => Some(Part::Opening),
-        Part::Start | Part::Affix | Part::Opening if has(NU, class) => Some(Part::Digits),
-        Part::Digits if has(NU | SY | IS, class) => Some(Part::Digits),
-        Part::Digits if has(CL | CP, class) => Some(Part::Closing),
-        Part::Digits | Part::Closing if has(PR | PO, class) => Some(Part::End),
+        Place::Start if has(PR | PO, class) => Some(Place::Affix),
+        Place::Start | Place::Affix if has(OP | HY, class) => Some(Place::Opening),
+        Place::Start | Place::Affix | Place::Opening if has(NU, class) => Some(Place::Digits),
+        Place::Digits if has(NU | SY | IS, class) => Some(Place::Digits),
+        Place::Digits if has(CL | CP, class) => Some(Place::Closing),
+        Place::Digits | Place::Closing if has(PR | PO, class) => Some(Place::End),
         _ => None,
     }
 }
 
-fn is_number(at: Part) -> bool {
+fn is_number(at: Place) -> bool {
     match at {
-        Part::Start | Part::Affix | Part::Opening => false,
-        Part::Digits | Part::Closing | Part::End => true,
+        Place::Start | Place::Affix | Place::Opening => false,
+        Place::Digits | Place::Closing | Place::End => true,
     }
 }

@@ -18,6 +18,14 @@ loop-at-preserved c =
           (λ k lt. c.any_may_separate.ensures c.if-any_may_separate.false k (omega arith));
     }
 
+-- the last block reaches back to characters that were tested before
+pub returns-then-not-any_may_separate-clause-before : goal.returns-then-not-any_may_separate-clause-before
+returns-then-not-any_may_separate-clause-before c =
+    let last = length c.args.text.now - 16 in
+    let n = length c.args.text.now - last in
+    λ k lt. no_separators_to c.args.text.now last n 16 (omega arith) (λ j below. c.loop-at.invariant.before j (omega arith))
+    (λ j below. c.any_may_separate-then-text-ge-BLOCK.ensures c.if-not-any_may_separate.true j (omega arith)) k (omega arith)
+
 pub returns-clause-before : goal.returns-clause-before
 returns-clause-before c =
     let at = c.loop-at.at in

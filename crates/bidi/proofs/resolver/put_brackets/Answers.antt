@@ -24,6 +24,7 @@ loop-at-init c =
     let others : (m : ℕ) → get_or c.args.brackets.now m Other ≡ Other = λ m. ap (λ xs. get_or xs m Other) c.requires.others ∙ other_there (length text) m in
     record {
       within = omega (arith, passed.within, size);
+      known = c.new-known.ensures;
       done = λ m below. others m ∙ sym (no_bracket_at tables text c.args.properties.now m (properties_of tables 0) c.requires.properties
           (omega (arith, below, passed.within, size)) (passed.passed m (properties_of tables 0) (omega arith) below));
       others = λ m above. others m;
@@ -35,7 +36,7 @@ loop-at-preserved c =
     let text = c.args.text.now in
     let all = bracket_types (bracket_of tables) text in
     let brackets = c.loop-at.brackets in
-    let value = c.bracket_type.result in
+    let value = c.look_up.result in
     let k = c.loop-at.at in
     let now = c.loop-at.invariant in
     let size : length c.args.properties.now ≡ length text = ap length c.requires.properties ∙ length-map text (properties_of tables) in
@@ -44,9 +45,10 @@ loop-at-preserved c =
     let sized : length brackets ≡ length text = c.loop-at.auto.brackets ∙ ap length c.requires.others ∙ length-replicate (length text) Other in
     let character : c.index-text-at.result ≡ get_or text k 0 = c.index-text-at.is ∙ get_or_default text k c.index-text-at.result 0 inside in
     let here : value ≡ get_or all k Other =
-    c.bracket_type.ensures ∙ ap (λ b. type_by (bracket_of tables b) b) character ∙ sym (get_or-map (λ b. type_by (bracket_of tables b) b) text k 0 Other inside) in
+    c.look_up.ensures.found ∙ ap (λ b. type_by (bracket_of tables b) b) character ∙ sym (get_or-map (λ b. type_by (bracket_of tables b) b) text k 0 Other inside) in
     record {
       within = omega (arith, passed.within, size);
+      known = c.look_up.ensures.known;
       done = λ m below. elim (cases_eq m k) [
         | inl e ↦ rw e (get_or-set_same brackets k value Other (omega (arith, inside, sized)) ∙ here)
         | inr ne ↦ elim (cases_lt m k) [

@@ -23,10 +23,3 @@ loop-kept-preserved c =
 
 pub returns-clause-all : goal.returns-clause-all
 returns-clause-all c = all_roomy (values c.args.list.now) c.loop-kept.kept-index c.loop-kept.most (all_listed c.args.list.now c.loop-kept.kept-index c.loop-kept-test.false) c.loop-kept.invariant.so_far
-
--- the least clause holds for 0 if there are no paragraphs
-pub returns-clause-none : goal.returns-clause-none
-returns-clause-none c = λ empty.
-    let list = c.args.list.now in
-    let least : c.loop-kept.most ≤ 0 = c.loop-kept.invariant.least 0 (all_roomy (values list) 0 0 (all_listed list 0 (omega (arith, empty))) tt) in
-    omega arith
