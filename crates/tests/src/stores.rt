@@ -1,5 +1,5 @@
-//! Compares the two stores. The tests must also pass if any one allocation fails: a failed `push` or `replace`
-//! changes nothing, and is tried again.
+//! Compares the two stores. The tests must also pass if any one allocation fails: a failed `push` or
+//! `replace` changes nothing, and is tried again.
 ghost use Rattle.std.specs.Prelude.{◌≡◌, ◌+◌, ◌-◌, ◌^◌, ◌<◌, sum_by};
 
 use std::alloc::{AllocError, Global};
