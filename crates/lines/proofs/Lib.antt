@@ -13,7 +13,6 @@ mod CountingLemmas
 pub mod EndLemmas
 mod ExtentLemmas
 mod FewLines
-mod GroupLemmas
 pub mod FillingLemmas
 pub mod InfoLemmas
 pub mod KeptLemmas

@@ -5,9 +5,10 @@ use Rattle.std.proofs.lemmas.Bool.{cases_Bool, cases_lt}
 use Rattle.std.proofs.lemmas.List.{drop_all, length-drop, take_all}
 use Rattle.reorder.specs.Clusters.{cluster_classes}
 use Rattle.reorder.specs.Order.{ltov_of, order_of, vtol_of}
+use Rattle.reorder.proofs.ClusterLemmas.{length-cluster_classes}
 use Rattle.ucd.specs.declared.bidi_class.BidiClass.{BidiClass}
 use Rattle.lines.specs.Clusters.{cluster_ends}
-use Rattle.lines.specs.Reordering.{classes_by, ends_by, ltov_by, reorders, vtol_by}
+use Rattle.lines.specs.Reordering.{classes_by, ends_by, ltov_by, vtol_by, reorders}
 use Rattle.lines.specs.declared.options.Options.{Options}
 use Rattle.lines.proofs.ClusterLemmas.{length-cluster_ends}
 
@@ -29,11 +30,6 @@ module _ (options : Options) (classes : List BidiClass) (ends : List Bool) (leve
 
   pub marks_ltov : options.reorder_clusters ≡ false → ltov_of options.reordernsm classes levels ≡ ltov_by options classes ends levels
   marks_ltov off = ap (λ b. ltov_of (asked b) (given b) levels) (sym off)
-
-  pub marks_places : reorders options ≡ true → options.reorder_clusters ≡ false → vtol_of true classes levels ≡ vtol_by options classes ends levels
-  marks_places on off =
-      let nsm : options.reordernsm ≡ true = sym (ap asked off) ∙ on in
-      ap (λ b. vtol_of b classes levels) (sym nsm) ∙ marks_vtol off
 
   pub not_reordered : reorders options ≡ false → order_of levels ≡ vtol_by options classes ends levels
   unfolding vtol_of
@@ -75,3 +71,13 @@ length-ends_by options text =
 
 pub all_ends : (options : Options) (text : List ℕ) → slice_range (ends_by options text) 0 (length text) ≡ ends_by options text
 all_ends options text = take_all (length text - 0) (ends_by options text) (omega (arith, length-ends_by options text))
+
+-- L3 has a class for each character of the shown part
+pub length-classes_by : (options : Options) (classes : List BidiClass) (ends : List Bool) (levels : List ℕ) → length levels ≤ length classes
+  → length levels ≤ length (classes_by options classes ends levels)
+length-classes_by options classes ends levels fit =
+    let size : Bool → ℕ = λ b. length (if b then cluster_classes ends levels else classes) in
+    elim (cases_Bool options.reorder_clusters) [
+      | inl on ↦ let e : size options.reorder_clusters ≡ size true = ap size on in omega (arith, e, length-cluster_classes ends levels)
+      | inr off ↦ let e : size options.reorder_clusters ≡ size false = ap size off in omega (arith, e, fit)
+    ]

@@ -40,6 +40,7 @@ mod filling;
 mod laid;
 mod laws;
 mod layout;
+mod line_classes;
 mod matching;
 mod one_line;
 mod options;

@@ -24,11 +24,12 @@ use crate::buffers::LineBuffers;
 use crate::counts::Count;
 use crate::extents::{Extents, end_of};
 use crate::fill::Shown;
+use crate::line_classes::LineClasses;
 use crate::options::Options;
 use crate::paragraph::{Paragraph, Text};
 use crate::reserve::reserve;
 use reorder::{
-    ClusterClasses, identity, order_runs, reset_levels, visual_chars, visual_order, visual_places,
+    identity, order_runs, reset_levels, visual_chars, visual_order, visual_places,
     visual_runs,
 };
 use std::alloc::AllocError;
@@ -232,29 +233,8 @@ pub(crate) fn reset_line(properties: &[Properties], base: u8, levels: &mut [u8])
     false
 }
 
-// The number of levels that are tested together, as a group. If the length of a list is not a multiple of
-// this number, the last group overlaps the previous group, so that no levels are tested one by one.
-const AT_ONCE: usize = 16;
-
 // Returns whether all levels are 0.
 fn are_zero(levels: &[u8]) -> bool
-    ensures { result ≡ true → (k : ℕ) → slice_index levels.now k ≡ 0 }
-{
-    if levels.len() < AT_ONCE {
-        return are_group_zero(levels);
-    }
-    let mut at = 0;
-    while at + AT_ONCE <= levels.len() {
-        if !are_group_zero(&levels[at..at + AT_ONCE]) {
-            return false;
-        }
-        at += AT_ONCE;
-    }
-    are_group_zero(&levels[levels.len() - AT_ONCE..])
-}
-
-#[inline(always)] // so that the loop over a group knows its length
-fn are_group_zero(levels: &[u8]) -> bool
     ensures { result ≡ true → (k : ℕ) → slice_index levels.now k ≡ 0 }
 {
     let mut highest = 0;
@@ -266,23 +246,6 @@ fn are_group_zero(levels: &[u8]) -> bool
 
 // Returns whether no level is odd.
 fn are_even(levels: &[u8]) -> bool
-    ensures { result ≡ true → (k : ℕ) → is_odd (slice_index levels.now k) ≡ false }
-{
-    if levels.len() < AT_ONCE {
-        return are_group_even(levels);
-    }
-    let mut at = 0;
-    while at + AT_ONCE <= levels.len() {
-        if !are_group_even(&levels[at..at + AT_ONCE]) {
-            return false;
-        }
-        at += AT_ONCE;
-    }
-    are_group_even(&levels[levels.len() - AT_ONCE..])
-}
-
-#[inline(always)]
-fn are_group_even(levels: &[u8]) -> bool
     ensures { result ≡ true → (k : ℕ) → is_odd (slice_index levels.now k) ≡ false }
 {
     let mut odd = 0;
@@ -347,51 +310,16 @@ pub(crate) fn show_part(
     if is_plain(levels, is_flat) {
         show_plain(part, ltov, vtol, chars);
     } else {
-        order_part(line, levels, vtol, ltov);
+        let classes = LineClasses::of(line, levels);
+        visual_order(
+            &classes,
+            levels,
+            reorders(line.rules.options),
+            vtol,
+            ltov,
+        );
         let properties = &line.properties[..levels.len()];
         visual_chars(line.rules.tables, part, properties, levels, vtol, chars);
-    }
-}
-
-// Writes the position maps of a line's shown part.
-fn order_part(line: &Text<'_>, levels: &[u8], vtol: &mut [u32], ltov: &mut [u32])
-    requires line { IsLookedUp line.now }
-    requires limit { length line.now.characters.now ≤ PARAGRAPH_LIMIT }
-    requires levels { length levels.now ≤ length line.now.characters.now }
-    requires vtol { length vtol.old ≡ length levels.now }
-    requires ltov { length ltov.old ≡ length levels.now }
-    ensures vtol { vtol.new ≡ vtol_by line.now.rules.options
-        (map class_in line.now.properties.now) line.now.ends.now levels.now }
-    ensures ltov { ltov.new ≡ ltov_by line.now.rules.options
-        (map class_in line.now.properties.now) line.now.ends.now levels.now }
-    ensures within { AreWithin (length levels.now) vtol.new }
-{
-    let (ends, properties) = (line.ends, line.properties);
-    if line.rules.options.reorder_clusters {
-        visual_order(&ClusterClasses { ends, levels }, levels, true, vtol, ltov);
-    } else {
-        let reordernsm = line.rules.options.reordernsm;
-        visual_order(&KnownClasses { properties }, levels, reordernsm, vtol, ltov);
-    }
-}
-
-// Writes the logical position of each visual position of a line's shown part. `reorder_clusters` or
-// `reordernsm` must be set.
-fn place_part(line: &Text<'_>, levels: &[u8], places: &mut [u32])
-    requires line { IsLookedUp line.now }
-    requires limit { length line.now.characters.now ≤ PARAGRAPH_LIMIT }
-    requires reorders { reorders line.now.rules.options ≡ true }
-    requires levels { length levels.now ≤ length line.now.characters.now }
-    requires places { length places.old ≡ length levels.now }
-    ensures places { places.new ≡ vtol_by line.now.rules.options
-        (map class_in line.now.properties.now) line.now.ends.now levels.now }
-    ensures within { AreWithin (length levels.now) places.new }
-{
-    let (ends, properties) = (line.ends, line.properties);
-    if line.rules.options.reorder_clusters {
-        visual_places(&ClusterClasses { ends, levels }, levels, true, places);
-    } else {
-        visual_places(&KnownClasses { properties }, levels, true, places);
     }
 }
 
@@ -428,7 +356,8 @@ pub(crate) fn show_chars(line: &Text<'_>, levels: &[u8], places: &mut [u32], cha
     let part = &line.characters[..levels.len()];
     let properties = &line.properties[..levels.len()];
     if reorders(line.rules.options) {
-        place_part(line, levels, places);
+        let classes = LineClasses::of(line, levels);
+        visual_places(&classes, levels, true, places);
         visual_chars(line.rules.tables, part, properties, levels, places, chars);
         return;
     }

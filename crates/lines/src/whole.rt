@@ -34,31 +34,9 @@ pub(crate) fn is_whole(text: &Text<'_>) -> bool
     end_no_line(&properties[..properties.len().saturating_sub(1)])
 }
 
-// The number of characters that are tested together, as a group. If the length of a text is not a multiple of
-// this number, the last group overlaps the previous group, so that no characters are tested one by one.
-const AT_ONCE: usize = 16;
-
 // Returns whether none of the characters is of a class after which a line must end. CR counts as such a class
-// even before LF.
+// even before LF. The loop has no branches, so the compiler can test several characters at a time.
 fn end_no_line(properties: &[Properties]) -> bool
-    ensures { result ≡ list_all may_go_on properties.now }
-{
-    if properties.len() < AT_ONCE {
-        return end_none(properties);
-    }
-    let mut at = 0;
-    while at + AT_ONCE <= properties.len() {
-        if !end_none(&properties[at..at + AT_ONCE]) {
-            return false;
-        }
-        at += AT_ONCE;
-    }
-    end_none(&properties[properties.len() - AT_ONCE..])
-}
-
-// Implements `end_no_line`. The loop has no branches, so the compiler can test several characters at a time.
-#[inline(always)] // so that the loop over a group knows its length
-fn end_none(properties: &[Properties]) -> bool
     ensures { result ≡ list_all may_go_on properties.now }
 {
     let mut none = true;

@@ -50,6 +50,3 @@ module _ (is_cut : ℕ → ℕ → Bool) (text : List ℕ) (width : ℕ) (some :
   not_refused short within =
       by_text ∙ text_refusal-short is_cut None text short
       ∙ cond-true (is_within_limit is_cut text) None (Some ParagraphTooLong) within
-
-  pub short_text : ParagraphsArePieces → length text ≤ PARAGRAPH_LIMIT → opening_refusal is_cut text width ≡ None
-  short_text law few = not_refused (omega (arith, few)) (short_within law is_cut text few)

@@ -5,10 +5,10 @@ ghost use Rattle.lines.specs.Engine.{rules_of};
 ghost use Rattle.lines.specs.Layouts.{cut_by};
 ghost use Rattle.session.specs.Sessions.{opening_refusal};
 
-use crate::edits::{EditFault, TEXT_LIMIT};
-use crate::joined::has_long;
-use bidi::paragraphs_are_pieces;
-use lines::{Engine, PARAGRAPH_LIMIT};
+use crate::edits::EditFault;
+use crate::joined::has_long_in_text;
+use crate::opening::is_too_long;
+use lines::Engine;
 
 /// Returns why a session cannot be opened on a text at a width, or `None` if only an allocation can fail.
 /// Allocates nothing.
@@ -18,15 +18,10 @@ pub fn opening_refusal(engine: &Engine, text: &str, width: u16) -> Option<EditFa
     if width == 0 {
         return Some(EditFault::WidthOutOfRange);
     }
-    paragraphs_are_pieces();
-    // Fast path: a text has at most as many characters as bytes.
-    if text.len() <= PARAGRAPH_LIMIT {
-        return None;
-    }
-    if text.chars().count() > TEXT_LIMIT {
+    if is_too_long(text) {
         return Some(EditFault::TextTooLong);
     }
-    if has_long(engine, &[], text, &[]) {
+    if has_long_in_text(engine, text) {
         return Some(EditFault::ParagraphTooLong);
     }
     None

@@ -86,9 +86,6 @@ fn longest(list: &[&Kept]) -> usize
         → result ≤ n }
     ensures none { length list.now ≡ 0 → result ≡ 0 }
 {
-    if list.is_empty() {
-        return 0;
-    }
     let mut most = 0;
     for kept in list {
         most = most.max(kept.chars());

@@ -425,10 +425,10 @@ fn write_cells<W: Sink>(
 fn padding(line: &VisualLine<'_>, width: u32, print: &Print) -> usize
     ensures { replicate result 32 ≡ padding width print.now line.now }
 {
-    if line.base % 2 == 1 && !print.nopad && !line.is_measured {
-        (width as usize).saturating_sub(line.columns as usize)
-    } else {
+    if print.nopad || line.is_measured {
         0
+    } else {
+        line.padding(width) as usize
     }
 }
 

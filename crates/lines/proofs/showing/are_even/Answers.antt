@@ -1,18 +1,14 @@
-use Rattle.std.proofs.Common.{◌≡◌, ◌+◌, ◌-◌, false, length, arith}
+use Rattle.std.proofs.Common.{◌≡◌, ◌≤◌, ◌%◌, length, get_or, ap, inl, inr, arith}
+use Rattle.std.proofs.lemmas.Bool.{cases_lt, eqb-true, ne_eqb}
+use Rattle.std.proofs.lemmas.List.{get_or_past}
 use Rattle.reorder.specs.Order.{is_odd}
-use Rattle.lines.proofs.GroupLemmas.{with_group, with_last}
 use Rattle.lines.proofs.showing.are_even.Goals as goal
 
-pub loop-at-preserved : goal.loop-at-preserved
-loop-at-preserved c =
-    let at = c.loop-at.at in
-    record {
-      passed = with_group (λ n. is_odd n ≡ false) c.args.levels.now at (at + 16 - at) (at + 16) (omega arith) c.loop-at.invariant.passed
-          (c.are_group_even-in-loop-at.ensures c.if-not-are_group_even.false);
-      within = c.loop-at-test.true;
-    }
-
 pub returns : goal.returns
-returns c is =
-    let size = length c.args.levels.now in
-    with_last (λ n. is_odd n ≡ false) c.args.levels.now c.loop-at.at (size - 16) (omega (arith, c.loop-at-test.false)) c.loop-at.invariant.passed (c.are_group_even-2.ensures is)
+returns c is k = elim (cases_lt k (length c.args.levels.now)) [
+  | inl within ↦
+      let none : c.loop-level.odd ≡ 0 = eqb-true c.loop-level.odd 0 is in
+      let most : get_or c.args.levels.now k 0 % 2 ≤ c.loop-level.odd = c.loop-level.invariant k (omega (arith, within, c.loop-level-test.false)) in
+      ne_eqb (get_or c.args.levels.now k 0 % 2) 1 (λ e. omega (arith, none, most, e))
+  | inr past ↦ ap is_odd (get_or_past c.args.levels.now k 0 past)
+]

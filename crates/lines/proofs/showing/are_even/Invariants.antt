@@ -1,12 +1,5 @@
-use Rattle.std.proofs.Common.{◌≡◌, ℕ, ◌<◌, ◌≤◌, ◌-◌, false, get_or, length}
-use Rattle.reorder.specs.Order.{is_odd}
+use Rattle.std.proofs.Common.{ℕ, ◌<◌, ◌≤◌, ◌%◌, get_or}
 use Rattle.lines.proofs.showing.are_even.Given as goal
 
-abbrev pub invariant-loop-at : goal.invariant-loop-at
-invariant-loop-at l = record {
-  passed : (k : ℕ) → k < l.at → is_odd (get_or l.levels k 0) ≡ false;
-  within : l.at ≤ length l.levels;
-}
-
-abbrev pub decreases-loop-at : goal.decreases-loop-at
-decreases-loop-at l = length l.levels - l.at
+abbrev pub invariant-loop-level : goal.invariant-loop-level
+invariant-loop-level l = (k : ℕ) → k < l.level-index → get_or l.levels k 0 % 2 ≤ l.odd
