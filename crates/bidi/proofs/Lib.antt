@@ -21,7 +21,6 @@ mod ExplicitLemmas
 mod ExplicitStepLemmas
 mod FlatLemmas
 pub mod FrontLemmas
-pub mod GroupLemmas
 mod IsolateLemmas
 mod JumpLemmas
 pub mod LastLemmas

@@ -9,9 +9,9 @@ ghost use Rattle.bidi.specs.Sequences.{stayed};
 ghost use Rattle.bidi.specs.Stayed.{HasAll};
 
 use crate::bracket_type::BracketType;
+use crate::brackets::copy_types;
 use crate::classes::is_removed;
 use crate::explicit::{Stayed, explicit};
-use crate::groups::copy_to_front;
 use crate::isolates::{Isolates, direct, find_or_keep_matches};
 use crate::sequence_levels::{Brackets, Paragraph, Sequence, Sides, resolve_runs, resolve_types};
 use crate::sequences::direction;
@@ -238,7 +238,7 @@ pub(crate) fn resolve_plain(
     let classes = paragraph.classes;
     let base = paragraph.base;
     let sequence = &mut work.lists.sequence;
-    copy_to_front(classes, &mut sequence.types)?;
+    copy_types(classes, &mut sequence.types)?;
     // All items are overwritten below, so their values do not matter.
     levels.resize(classes.len(), base)?;
     let side = direction(base);
@@ -251,7 +251,7 @@ pub(crate) fn resolve_plain(
         &paragraph.brackets,
         classes,
         sides,
-        &mut sequence.types[..classes.len()],
+        &mut sequence.types,
         &mut sequence.pairs,
         levels,
     )?;

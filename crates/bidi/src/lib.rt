@@ -22,7 +22,6 @@ mod doubling;
 mod explicit;
 mod explicit_steps;
 mod fill;
-mod groups;
 mod isolates;
 mod level_reason;
 mod levels;

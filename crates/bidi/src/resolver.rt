@@ -19,7 +19,6 @@ ghost use Rattle.bidi.specs.Plain.{has_bracket_in, is_flat, is_flat_at, is_flat_
 use crate::base::{Base, base_level_by, base_level_of};
 use crate::bracket_type::{BracketType, bracket_type, is_bracket, next_bracket};
 use crate::fill::lengthen;
-use crate::groups::{GROUP, copy_each};
 use crate::levels::{Classified, Work, resolve_classes, resolve_plain};
 use crate::sequence_levels::Brackets;
 use std::alloc::{AllocError, Global};
@@ -82,26 +81,8 @@ fn are_plain(classes: &[BidiClass]) -> bool
     all
 }
 
-// The number of characters whose classes are tested together.
-const AT_ONCE: usize = 128;
-
 // Returns whether all classes are flat, so that all levels equal the base level.
 fn are_flat(classes: &[BidiClass], base: u8) -> bool
-    requires { base ≤ 1 }
-    ensures { result ≡ list_all (is_flat_at base) classes.now }
-{
-    let mut at = 0;
-    while at < classes.len() {
-        let end = classes.len().min(at + AT_ONCE);
-        if !are_classes_flat(&classes[at..end], base) {
-            return false;
-        }
-        at = end;
-    }
-    true
-}
-
-fn are_classes_flat(classes: &[BidiClass], base: u8) -> bool
     requires { base ≤ 1 }
     ensures { result ≡ list_all (is_flat_at base) classes.now }
 {
@@ -112,45 +93,8 @@ fn are_classes_flat(classes: &[BidiClass], base: u8) -> bool
     flat
 }
 
-// The group size for paragraphs shorter than `GROUP`. In paragraphs shorter than `SMALL_GROUP`, characters
-// are tested one by one.
-const SMALL_GROUP: usize = 8;
-
 // Returns whether the classes in the properties are all flat, so that all levels equal the base level.
 fn are_flat_by(properties: &[Properties], base: u8) -> bool
-    requires { base ≤ 1 }
-    ensures { result ≡ list_all (λ one. is_flat_at base (class_in one)) properties.now }
-{
-    if properties.len() < SMALL_GROUP {
-        are_few_flat(properties, base)
-    } else if properties.len() < GROUP {
-        are_groups_flat(properties, base, SMALL_GROUP)
-    } else {
-        are_groups_flat(properties, base, GROUP)
-    }
-}
-
-// Does the same as `are_flat_by`, in groups of `group` characters.
-#[inline(always)]
-fn are_groups_flat(properties: &[Properties], base: u8, group: usize) -> bool
-    requires low { base ≤ 1 }
-    requires some { 0 < group }
-    requires enough { group ≤ length properties.now }
-    ensures { result ≡ list_all (λ one. is_flat_at base (class_in one)) properties.now }
-{
-    let last = properties.len() - group;
-    let mut at = 0;
-    while at < last {
-        if !are_flat_in(&properties[at..at + group], base) {
-            return false;
-        }
-        at += group;
-    }
-    are_flat_in(&properties[last..], base)
-}
-
-#[inline(always)]
-fn are_flat_in(properties: &[Properties], base: u8) -> bool
     requires { base ≤ 1 }
     ensures { result ≡ list_all (λ one. is_flat_at base (class_in one)) properties.now }
 {
@@ -159,16 +103,6 @@ fn are_flat_in(properties: &[Properties], base: u8) -> bool
         flat &= is_flat_at(properties[at].bidi_class(), base);
     }
     flat
-}
-
-// Does the same as `are_flat_by`, one character after another.
-fn are_few_flat(properties: &[Properties], base: u8) -> bool
-    requires { base ≤ 1 }
-    ensures { result ≡ list_all (λ one. is_flat_at base (class_in one)) properties.now }
-{
-    properties
-        .iter()
-        .all(|one| is_flat_at(one.bidi_class(), base))
 }
 
 fn has_brackets(brackets: &[BracketType]) -> bool
@@ -220,80 +154,6 @@ fn put_front(properties: &[Properties], classes: &mut [BidiClass]) -> Summary
 
 // Overwrites `classes` with the classes in `properties`, and returns a summary of the properties.
 fn put_classes(properties: &[Properties], classes: &mut [BidiClass]) -> Summary
-    requires { length classes.old ≡ length properties.now }
-    ensures classes { classes.new ≡ map class_in properties.now }
-    ensures plain { result.is_plain ≡ list_all is_plain (map class_in properties.now) }
-    ensures brackets { result.has_brackets ≡ list_any has_bracket_in properties.now }
-{
-    if properties.len() < GROUP {
-        put_each(properties, classes)
-    } else {
-        put_groups(properties, classes, GROUP)
-    }
-}
-
-// Does the same as `put_classes`, in groups of `group` characters. Leaves the loop at the first group that is
-// not plain. Without such an exit, LLVM would vectorize the loop over the groups, and not each group.
-#[inline(always)]
-fn put_groups(properties: &[Properties], classes: &mut [BidiClass], group: usize) -> Summary
-    requires same { length classes.old ≡ length properties.now }
-    requires exact { group ≡ 16 }
-    requires enough { group ≤ length properties.now }
-    ensures classes { classes.new ≡ map class_in properties.now }
-    ensures plain { result.is_plain ≡ list_all is_plain (map class_in properties.now) }
-    ensures brackets { result.has_brackets ≡ list_any has_bracket_in properties.now }
-{
-    let last = properties.len() - group;
-    let mut has_brackets = false;
-    let mut at = 0;
-    while at < last {
-        let part = put_group(&properties[at..at + group], &mut classes[at..at + group]);
-        if !part.is_plain {
-            let rest = put_each(&properties[at..], &mut classes[at..]);
-            return Summary {
-                is_plain: false,
-                has_brackets: has_brackets | rest.has_brackets,
-            };
-        }
-        has_brackets |= part.has_brackets;
-        at += group;
-    }
-    let part = put_group(&properties[last..], &mut classes[last..]);
-    Summary {
-        is_plain: part.is_plain,
-        has_brackets: has_brackets | part.has_brackets,
-    }
-}
-
-// Does the same as `put_classes` for one group. LLVM does not know that the lists are different, so the
-// classes go through a local array: all properties are read before the first class is written.
-#[inline(always)]
-fn put_group(properties: &[Properties], classes: &mut [BidiClass]) -> Summary
-    requires same { length classes.old ≡ length properties.now }
-    requires exact { length properties.now ≡ 16 }
-    ensures classes { classes.new ≡ map class_in properties.now }
-    ensures plain { result.is_plain ≡ list_all is_plain (map class_in properties.now) }
-    ensures brackets { result.has_brackets ≡ list_any has_bracket_in properties.now }
-{
-    let mut group = [BidiClass::L; GROUP];
-    let summary = put_inlined(properties, &mut group);
-    copy_each(&group, classes);
-    summary
-}
-
-// Does the same as `put_classes`, without groups.
-fn put_each(properties: &[Properties], classes: &mut [BidiClass]) -> Summary
-    requires { length classes.old ≡ length properties.now }
-    ensures classes { classes.new ≡ map class_in properties.now }
-    ensures plain { result.is_plain ≡ list_all is_plain (map class_in properties.now) }
-    ensures brackets { result.has_brackets ≡ list_any has_bracket_in properties.now }
-{
-    put_inlined(properties, classes)
-}
-
-// Does the same as `put_classes`. Contains the loop of `put_group` and `put_each`.
-#[inline(always)]
-fn put_inlined(properties: &[Properties], classes: &mut [BidiClass]) -> Summary
     requires { length classes.old ≡ length properties.now }
     ensures classes { classes.new ≡ map class_in properties.now }
     ensures plain { result.is_plain ≡ list_all is_plain (map class_in properties.now) }

@@ -74,7 +74,7 @@ all_ends options text = take_all (length text - 0) (ends_by options text) (omega
 
 -- L3 has a class for each character of the shown part
 pub length-classes_by : (options : Options) (classes : List BidiClass) (ends : List Bool) (levels : List ℕ) → length levels ≤ length classes
-  → length levels ≤ length (classes_by options classes ends levels)
+    → length levels ≤ length (classes_by options classes ends levels)
 length-classes_by options classes ends levels fit =
     let size : Bool → ℕ = λ b. length (if b then cluster_classes ends levels else classes) in
     elim (cases_Bool options.reorder_clusters) [

@@ -29,8 +29,7 @@ use crate::options::Options;
 use crate::paragraph::{Paragraph, Text};
 use crate::reserve::reserve;
 use reorder::{
-    identity, order_runs, reset_levels, visual_chars, visual_order, visual_places,
-    visual_runs,
+    identity, order_runs, reset_levels, visual_chars, visual_order, visual_places, visual_runs,
 };
 use std::alloc::AllocError;
 use ucd::{KnownClasses, Properties};
@@ -311,13 +310,7 @@ pub(crate) fn show_part(
         show_plain(part, ltov, vtol, chars);
     } else {
         let classes = LineClasses::of(line, levels);
-        visual_order(
-            &classes,
-            levels,
-            reorders(line.rules.options),
-            vtol,
-            ltov,
-        );
+        visual_order(&classes, levels, reorders(line.rules.options), vtol, ltov);
         let properties = &line.properties[..levels.len()];
         visual_chars(line.rules.tables, part, properties, levels, vtol, chars);
     }

@@ -1,4 +1,4 @@
-use Rattle.std.proofs.Common.{◌≡◌, length, take, sym, ap, ◌∙◌}
+use Rattle.std.proofs.Common.{◌≡◌, length, sym, ap, ◌∙◌}
 use Rattle.std.proofs.lemmas.List.{with_items_is}
 use Rattle.bidi.specs.Paragraphs.{AreBracketsOf}
 use Rattle.bidi.specs.Levels.{sequence_levels}
@@ -8,7 +8,7 @@ use Rattle.bidi.proofs.levels.resolve_plain.Goals as goal
 
 pub resolve_types-requires-clause-brackets : goal.resolve_types-requires-clause-brackets
 resolve_types-requires-clause-brackets c = λ any.
-    c.requires.brackets any ∙ sym (ap length (ap (take (length c.args.paragraph.now.classes.now)) c.deref_mut.ensures.value ∙ c.in_ok-copy_to_front.ensures.front))
+    c.requires.brackets any ∙ sym (ap length (c.deref_mut.ensures.value ∙ c.in_ok-copy_types.ensures))
 
 pub returns : goal.returns
 returns c look text are =
@@ -16,8 +16,8 @@ returns c look text are =
     let classes = p.classes.now in
     let base = p.base in
     let written = c.resolve_types.new.levels in
-    let copied = take (length classes) c.deref_mut.result.now in
-    let types : copied ≡ classes = ap (take (length classes)) c.deref_mut.ensures.value ∙ c.in_ok-copy_to_front.ensures.front in
+    let copied = c.deref_mut.result.now in
+    let types : copied ≡ classes = c.deref_mut.ensures.value ∙ c.in_ok-copy_types.ensures in
     let same : AreBracketsOf p.brackets (length copied) look text = record {
       size = are.size ∙ sym (ap length types);
       types = are.types;

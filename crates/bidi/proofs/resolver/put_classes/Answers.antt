@@ -4,7 +4,7 @@ use Rattle.std.proofs.lemmas.List.{map-append, take_all, take_more, take_more_se
 use Rattle.std.proofs.lemmas.List.Folds.{list_all-map, list_all_more, list_any_more}
 use Rattle.ucd.specs.Classes.{class_in}
 use Rattle.bidi.specs.Plain.{has_bracket_in, is_plain}
-use Rattle.bidi.proofs.resolver.put_inlined.Goals as goal
+use Rattle.bidi.proofs.resolver.put_classes.Goals as goal
 
 not-either : (a b : Bool) → (not a && not b) ≡ not (a || b)
 not-either true b = refl

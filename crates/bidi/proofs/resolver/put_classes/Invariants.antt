@@ -2,7 +2,7 @@ use Rattle.std.proofs.Common.{◌≡◌, map, not, take}
 use Rattle.std.specs.List.{list_all, list_any}
 use Rattle.ucd.specs.Classes.{class_in}
 use Rattle.bidi.specs.Plain.{has_bracket_in, is_plain}
-use Rattle.bidi.proofs.resolver.put_inlined.Given as goal
+use Rattle.bidi.proofs.resolver.put_classes.Given as goal
 
 abbrev pub invariant-loop-at : goal.invariant-loop-at
 invariant-loop-at l = record {

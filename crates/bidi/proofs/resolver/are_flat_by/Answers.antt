@@ -4,7 +4,7 @@ use Rattle.std.proofs.lemmas.List.{take_all}
 use Rattle.std.proofs.lemmas.List.Folds.{list_all_more}
 use Rattle.ucd.specs.Classes.{class_in}
 use Rattle.bidi.specs.Plain.{is_flat_at}
-use Rattle.bidi.proofs.resolver.are_flat_in.Goals as goal
+use Rattle.bidi.proofs.resolver.are_flat_by.Goals as goal
 
 pub loop-at-preserved : goal.loop-at-preserved
 loop-at-preserved c =
