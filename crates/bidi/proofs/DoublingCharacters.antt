@@ -11,7 +11,7 @@ use Rattle.bidi.specs.Brackets.{Pair, closer_of, fits, greatest, is_closer, is_c
 use Rattle.bidi.specs.Explicit.{directed, level_at, type_at}
 use Rattle.bidi.specs.Levels.{levels_in, paragraph_levels, put, put_back, sequence_levels}
 use Rattle.bidi.specs.Neutral.{implicit_level, neutral}
-use Rattle.bidi.specs.Sequences.{direction, eos, first_of, sequences, sos, stayed}
+use Rattle.bidi.specs.Sequences.{direction, eos, first_of, sequences, sos, retained}
 use Rattle.bidi.specs.Weak.{weak}
 
 -- ---- tests that agree
@@ -119,7 +119,7 @@ module _ (look : ℕ → Option Bracket) where
   pub paragraph-alike : (text other : List ℕ) → AreAlike text other → (classes : List BidiClass) (base : ℕ) → paragraph_levels look text classes base ≡ paragraph_levels look other classes base
   paragraph-alike text other alike classes base =
       let acting = directed classes in
-      let places = stayed acting in
+      let places = retained acting in
       let own = map (class_at acting) places in
       let levels = map (level_at base acting) places in
       ap (put_back base acting) (put-alike base (map (slice_index text) places) (map (slice_index other) places) (alike-part text other alike places) own levels

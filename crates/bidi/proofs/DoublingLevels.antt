@@ -11,7 +11,7 @@ use Rattle.ucd.specs.Classes.{class_at, is_removed}
 use Rattle.bidi.specs.Doubling.{double, can_be_doubled}
 use Rattle.bidi.specs.Explicit.{directed, directed_at, level_at, type_at}
 use Rattle.bidi.specs.Levels.{levels_by, levels_in, paragraph_levels, put, put_back, resolved, sequence_levels}
-use Rattle.bidi.specs.Sequences.{eos, first_of, sequences, sos, stayed}
+use Rattle.bidi.specs.Sequences.{eos, first_of, sequences, sos, retained}
 use Rattle.bidi.proofs.DoublingBrackets.{sequence-double}
 use Rattle.bidi.proofs.DoublingExplicit.{directed-here, kept-range, kept_to, level_at-double, put_back-double, repeat-inner, repeat-kept, repeat-opens, stay-at, stay-double, type-repeats, type_at-double}
 use Rattle.bidi.proofs.DoublingIsolates.{IsInner, directed-double}
@@ -215,28 +215,28 @@ levels_by-double look text classes base k within is none =
     let start : 0 + k ≡ k = omega arith in
     let more : (λ (m : ℕ). filter q (range_with_len 0 m)) (length (double k classes)) ≡ filter q (range_with_len 0 (suc n)) = ap (λ m. filter q (range_with_len 0 m)) (length-double k classes within) in
     let opens = repeat-opens (class_at classes k) is in
-    let characters = map (slice_index text) (stayed classes) in
-    let own = map (class_at classes) (stayed classes) in
-    let levels = map (level_at base classes) (stayed classes) in
-    let types = map (type_at base classes) (stayed classes) in
-    let characters_are : map (slice_index (double k text)) (stayed (double k classes)) ≡ double place characters =
+    let characters = map (slice_index text) (retained classes) in
+    let own = map (class_at classes) (retained classes) in
+    let levels = map (level_at base classes) (retained classes) in
+    let types = map (type_at base classes) (retained classes) in
+    let characters_are : map (slice_index (double k text)) (retained (double k classes)) ≡ double place characters =
     ap (map (slice_index (double k text))) more ∙ stay-double k p q same here (slice_index text) (slice_index (double k text)) (λ j. get_or-double k text j 0) n 0 k start within in
-    let own_are : map (class_at (double k classes)) (stayed (double k classes)) ≡ double place own =
+    let own_are : map (class_at (double k classes)) (retained (double k classes)) ≡ double place own =
     ap (map (class_at (double k classes))) more ∙ stay-double k p q same here (class_at classes) (class_at (double k classes)) (λ j. get_or-double k classes j ON) n 0 k start within in
-    let levels_are : map (level_at base (double k classes)) (stayed (double k classes)) ≡ double place levels =
+    let levels_are : map (level_at base (double k classes)) (retained (double k classes)) ≡ double place levels =
     ap (map (level_at base (double k classes))) more ∙ stay-double k p q same here (level_at base classes) (level_at base (double k classes)) (level_at-double classes k opens base) n 0 k start within in
-    let types_are : map (type_at base (double k classes)) (stayed (double k classes)) ≡ double place types =
+    let types_are : map (type_at base (double k classes)) (retained (double k classes)) ≡ double place types =
     ap (map (type_at base (double k classes))) more ∙ stay-double k p q same here (type_at base classes) (type_at base (double k classes)) (type_at-double classes k opens base) n 0 k start within in
     let character = stay-at k p here (slice_index text) 0 n 0 k start within in
     let class = stay-at k p here (class_at classes) ON n 0 k start within in
     let level = stay-at k p here (level_at base classes) 0 n 0 k start within in
     let type = stay-at k p here (type_at base classes) ON n 0 k start within in
     let place_is : place ≡ kept_to k classes = kept-range p k 0 classes (omega (arith, within)) (λ i. let e : 0 + i ≡ i = omega arith in ap p e) in
-    ap (λ xs. put_back base (double k classes) (resolved look base xs (map (class_at (double k classes)) (stayed (double k classes)))
-    (map (level_at base (double k classes)) (stayed (double k classes))) (map (type_at base (double k classes)) (stayed (double k classes))))) characters_are
+    ap (λ xs. put_back base (double k classes) (resolved look base xs (map (class_at (double k classes)) (retained (double k classes)))
+    (map (level_at base (double k classes)) (retained (double k classes))) (map (type_at base (double k classes)) (retained (double k classes))))) characters_are
     ∙ ap (λ xs. put_back base (double k classes) (resolved look base (double place characters) xs
-    (map (level_at base (double k classes)) (stayed (double k classes))) (map (type_at base (double k classes)) (stayed (double k classes))))) own_are
-    ∙ ap (λ xs. put_back base (double k classes) (resolved look base (double place characters) (double place own) xs (map (type_at base (double k classes)) (stayed (double k classes))))) levels_are
+    (map (level_at base (double k classes)) (retained (double k classes))) (map (type_at base (double k classes)) (retained (double k classes))))) own_are
+    ∙ ap (λ xs. put_back base (double k classes) (resolved look base (double place characters) (double place own) xs (map (type_at base (double k classes)) (retained (double k classes))))) levels_are
     ∙ ap (λ xs. put_back base (double k classes) (resolved look base (double place characters) (double place own) (double place levels) xs)) types_are
     ∙ ap (put_back base (double k classes)) (resolved-double look base characters own levels types place
     (subst IsInner (sym class.1) (repeat-inner (class_at classes k) is)) (ap look character.1 ∙ none) (ap can_be_doubled type.1 ∙ type-repeats base classes k is) class.0 level.0)

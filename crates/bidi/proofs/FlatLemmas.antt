@@ -17,7 +17,7 @@ use Rattle.bidi.specs.Neighbours.{nearest}
 use Rattle.bidi.specs.Neutral.{agree, side}
 use Rattle.bidi.specs.Plain.{is_flat, is_flat_rtl}
 use Rattle.bidi.specs.Rows.{levels_after}
-use Rattle.bidi.specs.Sequences.{stayed}
+use Rattle.bidi.specs.Sequences.{retained}
 use Rattle.bidi.specs.Waiting.{carry, digit_type, mark_type}
 use Rattle.bidi.specs.Weak.{is_left, is_number, mark_after, w3_type, w6_type, weak}
 use Rattle.bidi.proofs.BracketLemmas.{length-set_with}
@@ -489,7 +489,7 @@ same_levels left bracket text classes flat =
     let closed = All-weaker (λ c. is_flat_in left c ≡ true) (λ c. open_after [] c ≡ []) (flat-closed left) classes flat in
     let directed-is : directed classes ≡ classes =
     directed-none classes (All-weaker (λ c. is_flat_in left c ≡ true) (λ c. is_first_strong c ≡ false) (flat-directed left) classes flat) in
-    let places = stayed classes in
+    let places = retained classes in
     let n = length places in
     let characters = map (slice_index text) places in
     let kept = map (class_at classes) places in

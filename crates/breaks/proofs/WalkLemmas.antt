@@ -116,8 +116,8 @@ module _ (rules : List Rule) (stands : Base → List Base → Type 0) (mark_of :
   passes_on marks mark c text whole last others so_far passes seen =
       elim (cases_Bool (stays_with (end_of last) c)) [
         | inl stays ↦
-            let stayed : ((rest : List Base) → mark_of rest ≡ Never) × stands (with_attached last c) others = rw stays at passes in
-            (with_attached last c, others, stayed.1, rw (append_assoc, seen ∙ stayed.0 (bases_after text)) (rw stays at so_far))
+            let on_stay : ((rest : List Base) → mark_of rest ≡ Never) × stands (with_attached last c) others = rw stays at passes in
+            (with_attached last c, others, on_stay.1, rw (append_assoc, seen ∙ on_stay.0 (bases_after text)) (rw stays at so_far))
         | inr begins ↦
             let begun : ((text : List Character) → mark_of (bases_after text) ≡ mark_by rules (last ∷ others) (bases_of (c ∷ text)))
             × stands (alone c) (last ∷ others) = rw begins at passes in

@@ -150,14 +150,14 @@ reversed test xs n within passes stops =
     ∙ ap (λ front. front ++ reverse_with_next test [] (drop (suc n) xs)) (append-nil (reverse (take (suc n) xs)))
 
 -- items that fail the test keep their positions
-pub stayed : (test : ℕ → Bool) (xs : List ℕ) (n : ℕ) → n < length xs → ((k : ℕ) → k ≤ n → test (get_or xs k 0) ≡ false)
+pub kept_in_place : (test : ℕ → Bool) (xs : List ℕ) (n : ℕ) → n < length xs → ((k : ℕ) → k ≤ n → test (get_or xs k 0) ≡ false)
     → reverse_with_next test [] xs ≡ take (suc n) xs ++ reverse_with_next test [] (drop (suc n) xs)
-stayed test [] n within fails = absurd (omega (arith, within))
-stayed test (x ∷ xs) zero within fails =
+kept_in_place test [] n within fails = absurd (omega (arith, within))
+kept_in_place test (x ∷ xs) zero within fails =
     cond-false (test x) (reverse_with_next test (x ∷ []) xs) (x ∷ reverse_with_next test [] xs) (fails 0 (omega arith))
-stayed test (x ∷ xs) (suc n) within fails =
+kept_in_place test (x ∷ xs) (suc n) within fails =
     cond-false (test x) (reverse_with_next test (x ∷ []) xs) (x ∷ reverse_with_next test [] xs) (fails 0 (omega arith))
-    ∙ ap (λ zs. x ∷ zs) (stayed test xs n (omega (arith, within)) (λ k h. fails (suc k) (omega (arith, h))))
+    ∙ ap (λ zs. x ∷ zs) (kept_in_place test xs n (omega (arith, within)) (λ k h. fails (suc k) (omega (arith, h))))
 
 module _ (classes : List BidiClass) (levels : List ℕ) (start : ℕ) (xs : List ℕ) (n : ℕ) (is : xs ≡ drop start (order_of levels)) (are : AreBound classes levels xs n) where
   -- if a base comes after n bound marks, these n + 1 positions are reversed together
@@ -174,7 +174,7 @@ module _ (classes : List BidiClass) (levels : List ℕ) (start : ℕ) (xs : List
   pub marks_stay : is_mark_at classes (get_or xs n 0) ≡ true
       → reverse_with_next (has_base classes levels) [] xs ≡ take (suc n) xs ++ reverse_with_next (has_base classes levels) [] (drop (suc n) xs)
   marks_stay mark =
-      stayed (has_base classes levels) xs n are.within
+      kept_in_place (has_base classes levels) xs n are.within
       (λ k h.
       let d : k + (n - k) ≡ n = omega (arith, h) in
       unbased classes levels xs n (n - k) k are mark (free_of classes levels start xs n (get_or xs n 0) is are refl) d)

@@ -4,8 +4,8 @@ use Rattle.ucd.specs.declared.bidi_class.BidiClass.TheVariants.{L, ON}
 use Rattle.bidi.specs.BracketTypes.{bracket_at}
 use Rattle.ucd.specs.Classes.{is_removed}
 use Rattle.bidi.proofs.ExplicitLemmas.{stays, goes}
-use Rattle.bidi.proofs.levels.stayed_brackets.Goals as goal
-use Rattle.bidi.proofs.levels.stayed_brackets.Goals.{then-not-is_removed+in_ok-push, else-not-is_removed}
+use Rattle.bidi.proofs.levels.retained_brackets.Goals as goal
+use Rattle.bidi.proofs.levels.retained_brackets.Goals.{then-not-is_removed+in_ok-push, else-not-is_removed}
 
 pub loop-at-preserved : goal.loop-at-preserved
 loop-at-preserved c =
