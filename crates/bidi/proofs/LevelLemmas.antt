@@ -35,7 +35,7 @@ module _ {D : Type 0} (add : D → List ℕ → D) (size : D → ℕ) (keeps : (
     pub edge : 0 < start → start < length levels → slice_index levels (start - 1) ≢ slice_index levels start
     pub sized : size done ≡ size none
     pub marks : length flags ≡ length levels
-    pub told : (j : ℕ) → j < length levels → (0 < j → slice_index levels (j - 1) ≢ slice_index levels j) → get_or flags j false ≡ continued_at classes earlier j
+    pub flags_are : (j : ℕ) → j < length levels → (0 < j → slice_index levels (j - 1) ≢ slice_index levels j) → get_or flags j false ≡ continued_at classes earlier j
     pub whole : fold add done (sequences_from classes earlier (runs_from levels start)) ≡ all
 
   pub Adds-start : fold add none (sequences_from classes [] (runs levels)) ≡ all → (flags : List Bool) → length flags ≡ length levels
@@ -45,7 +45,7 @@ module _ {D : Type 0} (add : D → List ℕ → D) (size : D → ℕ) (keeps : (
     edge = λ h. absurd (omega arith);
     sized = refl;
     marks = size;
-    told = λ j within start. clear j within;
+    flags_are = λ j within start. clear j within;
     whole = let size : length levels - 0 ≡ length levels = omega arith in
         ap (λ n. fold add none (sequences_from classes [] (paragraphs (changes levels) (range_with_len 0 n)))) size ∙ is;
   }
@@ -65,9 +65,9 @@ module _ {D : Type 0} (add : D → List ℕ → D) (size : D → ℕ) (keeps : (
       let later = runs_from levels end in
       let rest = sequences_from classes (first ∷ now.earlier) later in
       let test = list_any (λ before. continues_in classes before first) now.earlier in
-      let is_told : test ≡ get_or flags start false =
+      let is_flagged : test ≡ get_or flags start false =
       ap (λ j. list_any (λ before. is_initiator (class_at classes (last_of before)) && is_match (match_of classes (last_of before)) j) now.earlier) begins
-      ∙ sym (now.told start (omega arith) (λ some. now.edge some (omega arith))) in
+      ∙ sym (now.flags_are start (omega arith) (λ some. now.edge some (omega arith))) in
       let split : sequences_from classes now.earlier (runs_from levels start)
       ≡ (if test then rest else joined classes first later ∷ rest) =
       ap (sequences_from classes now.earlier) (runs_from-run levels start end run) in
@@ -81,17 +81,17 @@ module _ {D : Type 0} (add : D → List ℕ → D) (size : D → ℕ) (keeps : (
               ∙ keeps done (sequence_at classes levels start) ∙ now.sized
         ];
         marks = marks;
-        told = λ j inside edge. marked j inside edge
+        flags_are = λ j inside edge. marked j inside edge
             ∙ ap (λ b. b || get_or flags j false) (sym (ap (λ l. is_initiator (class_at classes l) && is_match (match_of classes l) j) ends ∙ continues-match_at classes (end - 1) j (omega arith)))
-            ∙ ap (λ b. (is_initiator (class_at classes (last_of first)) && is_match (match_of classes (last_of first)) j) || b) (now.told j inside edge);
+            ∙ ap (λ b. (is_initiator (class_at classes (last_of first)) && is_match (match_of classes (last_of first)) j) || b) (now.flags_are j inside edge);
         whole = elim (cases_Bool (get_or flags start false)) [
           | inl skipped ↦
               ap (λ xs. fold add xs rest) (written ∙ cond-true (get_or flags start false) done (add done (sequence_at classes levels start)) skipped)
-              ∙ ap (fold add done) (sym (split ∙ cond-true test rest (joined classes first later ∷ rest) (is_told ∙ skipped)))
+              ∙ ap (fold add done) (sym (split ∙ cond-true test rest (joined classes first later ∷ rest) (is_flagged ∙ skipped)))
               ∙ now.whole
           | inr begun ↦
               ap (λ xs. fold add xs rest) (written ∙ cond-false (get_or flags start false) done (add done (sequence_at classes levels start)) begun ∙ ap (add done) here)
-              ∙ ap (fold add done) (sym (split ∙ cond-false test rest (joined classes first later ∷ rest) (is_told ∙ begun)))
+              ∙ ap (fold add done) (sym (split ∙ cond-false test rest (joined classes first later ∷ rest) (is_flagged ∙ begun)))
               ∙ now.whole
         ];
       }

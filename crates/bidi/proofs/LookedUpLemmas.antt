@@ -54,16 +54,16 @@ says (Some b) c =
     ]
 
 -- the bracket type `answer`, which was read at k, agrees with the character there
-pub record Told (look : ℕ → Option Bracket) (text : List ℕ) (types : List BidiClass) (k : ℕ) (answer : BracketType) : Type 0 where
+pub record LookedUp (look : ℕ → Option Bracket) (text : List ℕ) (types : List BidiClass) (k : ℕ) (answer : BracketType) : Type 0 where
   pub opens : is_opener look text types k ≡ opens_by answer
   pub closes : is_closer look text types k ≡ closes_by answer
   pub pair : (n : ℕ) → answer ≡ Opening n → (b : Bracket) × (look (get_or text k 0) ≡ Some b) × (b.pair ≡ n)
   pub number : (n : ℕ) → answer ≡ Closing n → get_or text k 0 ≡ n
 
-pub told_of : (look : ℕ → Option Bracket) (text : List ℕ) (kinds : List BracketType) (types : List BidiClass) (k : ℕ) (answer : BracketType)
+pub looked_up_of : (look : ℕ → Option Bracket) (text : List ℕ) (kinds : List BracketType) (types : List BidiClass) (k : ℕ) (answer : BracketType)
     → k < length types → length kinds ≡ length types → kinds ≡ bracket_types look text
-    → answer ≡ (if is_other (get_or types k L) then get_or kinds k Other else Other) → Told look text types k answer
-told_of look text kinds types k answer within size are e =
+    → answer ≡ (if is_other (get_or types k L) then get_or kinds k Other else Other) → LookedUp look text types k answer
+looked_up_of look text kinds types k answer within size are e =
     let c = get_or text k 0 in
     let inside : k < length text = omega (arith, within, size, ap length are, length-map text (λ c. type_by (look c) c)) in
     let kind : get_or kinds k Other ≡ type_by (look c) c = ap (λ xs. get_or xs k Other) are ∙ get_or-map (λ c. type_by (look c) c) text k 0 Other inside in
@@ -95,11 +95,11 @@ no_bracket Other e = refl
 no_bracket (Opening n) e = absurd (cc)
 no_bracket (Closing n) e = absurd (cc)
 
-pub other_told : (look : ℕ → Option Bracket) (text : List ℕ) (kinds : List BracketType) (types : List BidiClass) (k : ℕ)
-    → k < length types → length kinds ≡ length types → kinds ≡ bracket_types look text → is_bracket (bracket_at kinds k) ≡ false → Told look text types k Other
-other_told look text kinds types k within size are none =
+pub other_looked_up : (look : ℕ → Option Bracket) (text : List ℕ) (kinds : List BracketType) (types : List BidiClass) (k : ℕ)
+    → k < length types → length kinds ≡ length types → kinds ≡ bracket_types look text → is_bracket (bracket_at kinds k) ≡ false → LookedUp look text types k Other
+other_looked_up look text kinds types k within size are none =
     let is : get_or kinds k Other ≡ Other = no_bracket (get_or kinds k Other) none in
-    told_of look text kinds types k Other within size are
+    looked_up_of look text kinds types k Other within size are
     (elim (cases_Bool (is_other (get_or types k L))) [
       | inl other ↦ sym (cond-true (is_other (get_or types k L)) (get_or kinds k Other) Other other ∙ is)
       | inr none ↦ sym (cond-false (is_other (get_or types k L)) (get_or kinds k Other) Other none)
