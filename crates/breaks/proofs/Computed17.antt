@@ -9,7 +9,7 @@ use Rattle.ucd.specs.declared.version.Version.TheVariants.{V17_0}
 use Rattle.breaks.specs.Bases.{Base, Character, alone, class_of, is_east_asian}
 use Rattle.breaks.specs.Classes.{is_same, is_one_of}
 use Rattle.breaks.specs.Rules.{rows_before_numbers, rows_of_numbers, rows_after_numbers, after_final, is, is_dotted_circle}
-use Rattle.breaks.specs.Symbols.{character_in, narrow, shown_17, symbols_17, told_17, wide}
+use Rattle.breaks.specs.Symbols.{character_in, narrow, shown_17, symbols_17, as_read_17, wide}
 use Rattle.breaks.specs.Walk.{base, unattached}
 use Rattle.breaks.specs.Walk17.{Bits, answered_17, answers_17, bases_at_17, by_width, carried_17, decided_17, mark_of_17, marks_17, rows_17, states_17}
 use Rattle.breaks.specs.declared.mark.Mark.{Mark}
@@ -255,7 +255,7 @@ rows_are_within_17 = refl
 pub outcomes_are_within_17 : list_all (λ entry. nat_lt entry OUTCOME_COUNT) OUTCOMES ≡ true
 outcomes_are_within_17 = refl
 
-pub symbols_are_right_17 : all_below 448 (λ index. is_character (shown_17 (get_or SYMBOLS index 0)) (told_17 (character_in V17_0 (line_answers_at index)))) ≡ true
+pub symbols_are_right_17 : all_below 448 (λ index. is_character (shown_17 (get_or SYMBOLS index 0)) (as_read_17 (character_in V17_0 (line_answers_at index)))) ≡ true
 symbols_are_right_17 = refl
 
 pub symbols_are_within_17 : list_all (λ entry. nat_lt entry SYMBOL_COUNT) SYMBOLS ≡ true

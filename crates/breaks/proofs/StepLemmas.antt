@@ -9,7 +9,7 @@ use Rattle.breaks.specs.Bases.{Base, Character, alone, class_of, end_of, last_of
 use Rattle.breaks.specs.Classes.{is_same, is_one_of}
 use Rattle.breaks.specs.Numbers.{affix, closing, middle, opening, is_in_number}
 use Rattle.breaks.specs.Rules.{Row, Rule, rule_of, rules, rows_before_numbers, rows_of_numbers, rows_after_numbers, mark_by, is, is_pair, is_spaced, without_spaces, ends_in_odd_run}
-use Rattle.breaks.specs.Symbols.{narrow, told}
+use Rattle.breaks.specs.Symbols.{narrow, as_read}
 use Rattle.breaks.specs.Walk.{answers, begins_unaffixed, carried, ends_in_closed_digits, ends_in_digits, goes_on_after_digits, number_rows, rows}
 use Rattle.breaks.specs.declared.mark.Mark.{Mark}
 use Rattle.breaks.specs.declared.mark.Mark.TheVariants.{Never, May}
@@ -234,30 +234,30 @@ pub carried_attached : (last : Base) (others : List Base) (attached : List Chara
 carried_attached last others attached = carried_same_class (record { first = last.first; attached = attached }) last others refl
 
 -- the conditions depend on the first character of a base only through its symbol
-pub answers_told : (whole_numbers : Bool) (c : Character) (bases : List Base) → answers whole_numbers (alone c ∷ bases) ≡ answers whole_numbers (alone (told c) ∷ bases)
+pub answers_as_read : (whole_numbers : Bool) (c : Character) (bases : List Base) → answers whole_numbers (alone c ∷ bases) ≡ answers whole_numbers (alone (as_read c) ∷ bases)
 unfolding rows rows_before_numbers rows_of_numbers rows_after_numbers
-answers_told true c bases =
+answers_as_read true c bases =
     let read : Base = record { first = record c { is_future_pictograph = false }; attached = narrow CM ∷ [] } in
-    let told_base : Base = record { first = told c; attached = narrow CM ∷ [] } in
+    let base_as_read : Base = record { first = as_read c; attached = narrow CM ∷ [] } in
     rw (
       narrow_before c.class c.is_wide,
-      spaced_same_class (ZW ∷ []) read told_base bases refl,
-      spaced_same_class (OP ∷ []) read told_base bases refl,
-      spaced_same_class (QU ∷ []) read told_base bases refl,
-      spaced_same_class (CL ∷ CP ∷ []) read told_base bases refl,
-      spaced_same_class (B2 ∷ []) read told_base bases refl,
+      spaced_same_class (ZW ∷ []) read base_as_read bases refl,
+      spaced_same_class (OP ∷ []) read base_as_read bases refl,
+      spaced_same_class (QU ∷ []) read base_as_read bases refl,
+      spaced_same_class (CL ∷ CP ∷ []) read base_as_read bases refl,
+      spaced_same_class (B2 ∷ []) read base_as_read bases refl,
     ) refl
-answers_told false c bases =
+answers_as_read false c bases =
     let read : Base = record { first = record c { is_future_pictograph = false }; attached = narrow CM ∷ [] } in
-    let told_base : Base = record { first = told c; attached = narrow CM ∷ [] } in
+    let base_as_read : Base = record { first = as_read c; attached = narrow CM ∷ [] } in
     rw (
       narrow_before c.class c.is_wide,
-      spaced_same_class (ZW ∷ []) read told_base bases refl,
-      spaced_same_class (OP ∷ []) read told_base bases refl,
-      spaced_same_class (QU ∷ []) read told_base bases refl,
-      spaced_same_class (CL ∷ CP ∷ []) read told_base bases refl,
-      spaced_same_class (B2 ∷ []) read told_base bases refl,
+      spaced_same_class (ZW ∷ []) read base_as_read bases refl,
+      spaced_same_class (OP ∷ []) read base_as_read bases refl,
+      spaced_same_class (QU ∷ []) read base_as_read bases refl,
+      spaced_same_class (CL ∷ CP ∷ []) read base_as_read bases refl,
+      spaced_same_class (B2 ∷ []) read base_as_read bases refl,
     ) refl
 
-pub carried_told : (c : Character) (bases : List Base) → carried (alone c ∷ bases) ≡ carried (alone (told c) ∷ bases)
-carried_told c bases = carried_same_class (alone c) (alone (told c)) bases refl
+pub carried_as_read : (c : Character) (bases : List Base) → carried (alone c ∷ bases) ≡ carried (alone (as_read c) ∷ bases)
+carried_as_read c bases = carried_same_class (alone c) (alone (as_read c)) bases refl

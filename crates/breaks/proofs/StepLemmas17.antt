@@ -8,7 +8,7 @@ use Rattle.ucd.specs.declared.version.Version.TheVariants.{V17_0}
 use Rattle.breaks.specs.Bases.{Base, Character, alone, base_class, class_of, is_east_asian}
 use Rattle.breaks.specs.Classes.{is_detail, is_same, is_one_of}
 use Rattle.breaks.specs.Rules.{Row, rules, rows_before_numbers, rows_of_numbers, rows_after_numbers, mark_by, before_initial, before_word, begins_quotation, ends_in_number, ends_in_odd_run, is, is_aksara, is_dotted_circle, is_not_east_asian, is_pair, is_spaced, or_edge, spaced, without_spaces}
-use Rattle.breaks.specs.Symbols.{told_17}
+use Rattle.breaks.specs.Symbols.{as_read_17}
 use Rattle.breaks.specs.Walk17.{answered_17, answers_17, bits_of, carried_17, is_wide_base, rows_17}
 use Rattle.breaks.specs.declared.mark.Mark.TheVariants.{May}
 use Rattle.breaks.proofs.StepLemmas.{chosen, last_rules_of_rows, more_rows, odd_after, odd_same, pair_after, pair_same, row_mark, rules_of_rows, spaced_same, spaced_same_class}
@@ -165,55 +165,55 @@ carried_attached_17 last others attached = carried_alike (record { first = last.
 
 -- ---- what the conditions read of a character: only QU and AL have details
 
-abbrev told_detail : LineClass → LineDetail → LineDetail
-told_detail class detail = if is_one_of (QU ∷ AL ∷ []) class then detail else Plain
+abbrev detail_as_read : LineClass → LineDetail → LineDetail
+detail_as_read class detail = if is_one_of (QU ∷ AL ∷ []) class then detail else Plain
 
-quote_told : (class : LineClass) (detail wanted : LineDetail) → (is_same (base_class class) QU && is_detail detail wanted)
-    ≡ (is_same (base_class class) QU && is_detail (told_detail class detail) wanted)
-quote_told QU detail wanted = refl
-quote_told class detail wanted = refl
+quote_as_read : (class : LineClass) (detail wanted : LineDetail) → (is_same (base_class class) QU && is_detail detail wanted)
+    ≡ (is_same (base_class class) QU && is_detail (detail_as_read class detail) wanted)
+quote_as_read QU detail wanted = refl
+quote_as_read class detail wanted = refl
 
-other_told : (class : LineClass) (detail wanted : LineDetail) → (is_same (base_class class) QU && not (is_detail detail wanted))
-    ≡ (is_same (base_class class) QU && not (is_detail (told_detail class detail) wanted))
-other_told QU detail wanted = refl
-other_told class detail wanted = refl
+other_as_read : (class : LineClass) (detail wanted : LineDetail) → (is_same (base_class class) QU && not (is_detail detail wanted))
+    ≡ (is_same (base_class class) QU && not (is_detail (detail_as_read class detail) wanted))
+other_as_read QU detail wanted = refl
+other_as_read class detail wanted = refl
 
-pub circle_told : (class : LineClass) (detail : LineDetail) → (is_same class AL && is_detail detail DottedCircle)
-    ≡ (is_same class AL && is_detail (told_detail class detail) DottedCircle)
-circle_told AL detail = refl
-circle_told class detail = refl
+pub circle_as_read : (class : LineClass) (detail : LineDetail) → (is_same class AL && is_detail detail DottedCircle)
+    ≡ (is_same class AL && is_detail (detail_as_read class detail) DottedCircle)
+circle_as_read AL detail = refl
+circle_as_read class detail = refl
 
-pub answers_told_17 : (c : Character) (bases : List Base) → answers_17 (alone c ∷ bases) ≡ answers_17 (alone (told_17 c) ∷ bases)
-answers_told_17 c bases =
-    answers_alike (alone c) (alone (told_17 c)) bases refl (quote_told c.class c.detail Initial) (other_told c.class c.detail Final)
-    (circle_told c.class c.detail) (narrow_before c.class c.is_wide)
+pub answers_as_read_17 : (c : Character) (bases : List Base) → answers_17 (alone c ∷ bases) ≡ answers_17 (alone (as_read_17 c) ∷ bases)
+answers_as_read_17 c bases =
+    answers_alike (alone c) (alone (as_read_17 c)) bases refl (quote_as_read c.class c.detail Initial) (other_as_read c.class c.detail Final)
+    (circle_as_read c.class c.detail) (narrow_before c.class c.is_wide)
 
-pub carried_told_17 : (c : Character) (bases : List Base) → carried_17 (alone c ∷ bases) ≡ carried_17 (alone (told_17 c) ∷ bases)
-carried_told_17 c bases =
-    carried_alike (alone c) (alone (told_17 c)) bases refl (quote_told c.class c.detail Initial) (other_told c.class c.detail Final)
-    (circle_told c.class c.detail) (narrow_before c.class c.is_wide)
+pub carried_as_read_17 : (c : Character) (bases : List Base) → carried_17 (alone c ∷ bases) ≡ carried_17 (alone (as_read_17 c) ∷ bases)
+carried_as_read_17 c bases =
+    carried_alike (alone c) (alone (as_read_17 c)) bases refl (quote_as_read c.class c.detail Initial) (other_as_read c.class c.detail Final)
+    (circle_as_read c.class c.detail) (narrow_before c.class c.is_wide)
 
 wide_again : (wide other : Bool) → (wide && other) ≡ ((wide && other) && other)
 wide_again true true = refl
 wide_again true false = refl
 wide_again false other = refl
 
-opening_told : (class : LineClass) (wide : Bool) → (is_one_of (OP ∷ []) (base_class class) && not wide)
+opening_as_read : (class : LineClass) (wide : Bool) → (is_one_of (OP ∷ []) (base_class class) && not wide)
     ≡ (is_one_of (OP ∷ []) (base_class class) && not (wide && not (is_one_of (CM ∷ ZWJ ∷ []) class)))
-opening_told OP true = refl
-opening_told OP false = refl
-opening_told class wide = refl
+opening_as_read OP true = refl
+opening_as_read OP false = refl
+opening_as_read class wide = refl
 
 -- the conditions on the bases after a position depend on the character there only through its symbol and the
 -- width of its base
-pub answers_after_told_17 : (c : Character) (rest : List Base)
-    → answers_after_17 c rest ≡ answers_after_17 (with_width (told_17 c) (is_east_asian (alone c))) rest
+pub answers_after_as_read_17 : (c : Character) (rest : List Base)
+    → answers_after_17 c rest ≡ answers_after_17 (with_width (as_read_17 c) (is_east_asian (alone c))) rest
 unfolding rows_17 rows_before_numbers rows_of_numbers rows_after_numbers
-answers_after_told_17 c rest =
+answers_after_as_read_17 c rest =
     rw (
-      quote_told c.class c.detail Final,
-      other_told c.class c.detail Initial,
-      circle_told c.class c.detail,
-      opening_told c.class c.is_wide,
+      quote_as_read c.class c.detail Final,
+      other_as_read c.class c.detail Initial,
+      circle_as_read c.class c.detail,
+      opening_as_read c.class c.is_wide,
       ← wide_again c.is_wide (not (is_one_of (CM ∷ ZWJ ∷ []) c.class)),
     ) refl
