@@ -7,7 +7,7 @@ use Rattle.ucd.specs.declared.line_class.LineClass.{LineClass}
 use Rattle.ucd.specs.declared.line_detail.LineDetail.{LineDetail}
 use Rattle.ucd.specs.declared.version.Version.TheVariants.{V15_0}
 use Rattle.ucd.specs.declared.line_class.LineClass.TheVariants.{CM, NU, OP, XX, ZWJ}
-use Rattle.breaks.specs.Bases.{Base, Character, alone}
+use Rattle.breaks.specs.Bases.{BaseCharacter, Character, alone}
 use Rattle.breaks.specs.Classes.{is_detail, is_same, is_one_of}
 use Rattle.breaks.specs.Rules.{rows_before_numbers, rows_of_numbers, rows_after_numbers, is}
 use Rattle.breaks.specs.Symbols.{character_in, narrow, shown, symbols, as_read}
@@ -31,7 +31,7 @@ marks_by_row whole_numbers = map (λ row. row.mark) (rows whole_numbers)
 
 -- the bases after a position: a base that begins with c, then a base of class NU or nothing; then the results of all
 -- conditions on these bases
-abbrev pub bases_after : Character → Bool → List Base
+abbrev pub bases_after : Character → Bool → List BaseCharacter
 bases_after c true = alone c ∷ base NU ∷ []
 bases_after c false = alone c ∷ []
 

@@ -4,7 +4,7 @@ use Rattle.std.proofs.lemmas.Bool.{cases_Bool}
 use Rattle.ucd.specs.declared.line_class.LineClass.TheVariants.{CM, ZWJ}
 use Rattle.ucd.specs.declared.properties.Properties.{Properties}
 use Rattle.ucd.specs.declared.version.Version.TheVariants.{V17_0}
-use Rattle.breaks.specs.Bases.{Base, Character, alone, is_east_asian}
+use Rattle.breaks.specs.Bases.{BaseCharacter, Character, alone, is_east_asian}
 use Rattle.breaks.specs.Classes.{is_same, is_one_of}
 use Rattle.breaks.specs.Symbols.{character_by, shown_17, as_read_17}
 use Rattle.breaks.specs.Walk17.{Stands17, narrow_walk, decided_17, decided_narrow, is_narrow_17, narrow_bits}
@@ -57,7 +57,7 @@ narrow_by symbol p joiner pictograph wide lt shows joined is width =
 
 pub passes_narrow : (row symbol next_row outcome : ℕ) (p : Properties) → symbol < SYMBOL_COUNT → shown_17 symbol ≡ as_read_17 (character_by V17_0 p)
     → next_row ≡ get_or NEXT_ROWS (row + symbol) 0 → outcome ≡ get_or OUTCOMES (row + symbol) 0 → is_narrow_17 p ≡ true
-    → (last : Base) (others : List Base) → Stands17 (narrow_walk row) last others
+    → (last : BaseCharacter) (others : List BaseCharacter) → Stands17 (narrow_walk row) last others
     → Passes17 (narrow_walk next_row) last others (character_by V17_0 p) (decided_narrow outcome)
 passes_narrow row symbol next_row outcome p lt shows reads_row reads_outcome h last others stands =
     let c : Character = character_by V17_0 p in

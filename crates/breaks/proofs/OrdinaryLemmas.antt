@@ -6,7 +6,7 @@ use Rattle.std.proofs.lemmas.Bool.{both_ways, cases_Bool}
 use Rattle.std.proofs.lemmas.List.Folds.{list_all_at}
 use Rattle.ucd.specs.declared.line_class.LineClass.TheVariants.{ZWJ}
 use Rattle.ucd.specs.declared.properties.Properties.{Properties}
-use Rattle.breaks.specs.Bases.{Base, Character, alone}
+use Rattle.breaks.specs.Bases.{BaseCharacter, Character, alone}
 use Rattle.breaks.specs.Classes.{is_same}
 use Rattle.breaks.specs.Symbols.{character_by, shown, as_read}
 use Rattle.breaks.specs.Walk.{Stands, decided_at, full_walk, is_ordinary}
@@ -61,7 +61,7 @@ decides_alone outcome =
 
 pub passes_ordinary : (row symbol next_row outcome : ℕ) (p : Properties) → symbol < SYMBOL_COUNT → shown symbol ≡ as_read (character_by V15_0 p)
     → next_row ≡ get_or NEXT_ROWS (row + symbol) 0 → outcome ≡ get_or OUTCOMES (row + symbol) 0 → is_ordinary p ≡ true
-    → (whole_numbers : Bool) (last : Base) (others : List Base) → Stands whole_numbers (full_walk row) last others
+    → (whole_numbers : Bool) (last : BaseCharacter) (others : List BaseCharacter) → Stands whole_numbers (full_walk row) last others
     → Passes15 whole_numbers (full_walk next_row) last others (character_by V15_0 p) outcome
 passes_ordinary row symbol next_row outcome p below shows reads_row reads_outcome next whole_numbers last others stands =
     let c : Character = character_by V15_0 p in

@@ -3,7 +3,7 @@ use Rattle.std.proofs.Common.{◌≡◌, ◌∙◌, ℕ, ◌+◌, ◌<◌, ◌==
 use Rattle.ucd.specs.declared.line_class.LineClass.TheVariants.{ZWJ}
 use Rattle.ucd.specs.declared.properties.Properties.{Properties}
 use Rattle.ucd.specs.declared.version.Version.TheVariants.{V17_0}
-use Rattle.breaks.specs.Bases.{Base, Character, alone}
+use Rattle.breaks.specs.Bases.{BaseCharacter, Character, alone}
 use Rattle.breaks.specs.Classes.{is_same}
 use Rattle.breaks.specs.Symbols.{character_by, shown_17, as_read_17}
 use Rattle.breaks.specs.Walk17.{Stands17, begins_wide, begins_wide_if_any, bits_in, decided_17, full_walk, is_ordinary_17}
@@ -50,7 +50,7 @@ starts_ordinary_17 symbol row p lt shows reads_row h =
 
 pub stays_ordinary_17 : (walk : OrdinaryWalk17) (symbol next_row outcome : ℕ) (p : Properties) → symbol < SYMBOL_COUNT → shown_17 symbol ≡ as_read_17 (character_by V17_0 p)
     → next_row ≡ get_or NEXT_ROWS (walk.row + symbol) 0 → outcome ≡ get_or OUTCOMES (walk.row + symbol) 0 → (outcome == STAYS) ≡ true → is_ordinary_17 p ≡ true
-    → (last : Base) (others : List Base) → Stands17 (full_walk walk) last others
+    → (last : BaseCharacter) (others : List BaseCharacter) → Stands17 (full_walk walk) last others
     → Passes17 (full_walk (record walk { row = next_row })) last others (character_by V17_0 p) NEVER
 unfolding walk_with
 stays_ordinary_17 walk symbol next_row outcome p lt shows reads_row reads_outcome stay h last others stands =
@@ -62,7 +62,7 @@ stays_ordinary_17 walk symbol next_row outcome p lt shows reads_row reads_outcom
 begins_ordinary_17 : (walk : OrdinaryWalk17) (symbol next_row outcome decided : ℕ) (p : Properties) → symbol < SYMBOL_COUNT
     → shown_17 symbol ≡ as_read_17 (character_by V17_0 p) → next_row ≡ get_or NEXT_ROWS (walk.row + symbol) 0 → outcome ≡ get_or OUTCOMES (walk.row + symbol) 0
     → (outcome == STAYS) ≡ false → is_ordinary_17 p ≡ true → decided ≡ decided_17 outcome (bits_in (full_walk walk)) (begins_wide p)
-    → (last : Base) (others : List Base) → Stands17 (full_walk walk) last others
+    → (last : BaseCharacter) (others : List BaseCharacter) → Stands17 (full_walk walk) last others
     → Passes17 (full_walk (record { row = next_row; last = p; before = Some walk.last })) last others (character_by V17_0 p) decided
 unfolding walk_with
 begins_ordinary_17 walk symbol next_row outcome decided p lt shows reads_row reads_outcome begin h decides last others stands =
@@ -77,7 +77,7 @@ pub begun_ordinary_17 : (walk new : OrdinaryWalk17) (symbol next_row outcome dec
     → shown_17 symbol ≡ as_read_17 (character_by V17_0 p) → next_row ≡ get_or NEXT_ROWS (walk.row + symbol) 0 → outcome ≡ get_or OUTCOMES (walk.row + symbol) 0
     → (outcome == STAYS) ≡ false → is_ordinary_17 p ≡ true → decided ≡ decided_17 outcome (bits_in (full_walk walk)) (begins_wide p)
     → new.row ≡ next_row → new.last ≡ p → new.before ≡ Some walk.last
-    → (last : Base) (others : List Base) → Stands17 (full_walk walk) last others
+    → (last : BaseCharacter) (others : List BaseCharacter) → Stands17 (full_walk walk) last others
     → Passes17 (full_walk new) last others (character_by V17_0 p) decided
 begun_ordinary_17 walk new symbol next_row outcome decided p lt shows reads_row reads_outcome begin h decides row is_last is_before last others stands =
     rw (row, is_last, is_before) (begins_ordinary_17 walk symbol next_row outcome decided p lt shows reads_row reads_outcome begin h decides last others stands)

@@ -6,7 +6,7 @@ use Rattle.ucd.specs.declared.line_class.LineClass.TheVariants.{AK, AL, AS, CM, 
 use Rattle.ucd.specs.declared.line_detail.LineDetail.{LineDetail}
 use Rattle.ucd.specs.declared.line_detail.LineDetail.TheVariants.{DottedCircle}
 use Rattle.ucd.specs.declared.version.Version.TheVariants.{V17_0}
-use Rattle.breaks.specs.Bases.{Base, Character, alone, base_class, bases_of, class_of, end_of, is_east_asian, joined, stays_with}
+use Rattle.breaks.specs.Bases.{BaseCharacter, Character, alone, base_class, bases_of, class_of, end_of, is_east_asian, joined, stays_with}
 use Rattle.breaks.specs.Classes.{is_detail, is_same, is_one_of}
 use Rattle.breaks.specs.Rules.{rules, rows_before_numbers, rows_of_numbers, rows_after_numbers, mark_by, after_final, is, is_dotted_circle, is_not_east_asian, or_edge}
 use Rattle.breaks.specs.Symbols.{shown_17, as_read_17}
@@ -85,8 +85,8 @@ record Begins17 (state symbol outcome next : ℕ) : Type 0 where
 
 beginning_17 : (state symbol outcome next : ℕ) → leads_17 false state symbol outcome next ≡ true → Begins17 state symbol outcome next
 beginning_17 state symbol outcome next led =
-    let after : List Base = alone (shown_17 symbol) ∷ bases_at_17 state in
-    let there : List Base = bases_at_17 next in
+    let after : List BaseCharacter = alone (shown_17 symbol) ∷ bases_at_17 state in
+    let there : List BaseCharacter = bases_at_17 next in
     let attaching : Bool = same (is_one_of unattached (shown_17 symbol).class) (is unattached there) in
     let giving : Bool = given_by_17 (befores_at state) symbol outcome (is unattached (bases_at_17 state)) (shown_17 symbol) in
     let alike : Bool = all_same (answers_17 after) (answers_17 there) && all_same (carried_17 after) (carried_17 there) in
@@ -103,7 +103,7 @@ beginning_17 state symbol outcome next led =
 
 -- After a character that begins a base, the new state belongs to the bases that include it. The bases before
 -- it must have the same `carried_17` as the example bases of the old state.
-pub begins_17 : (state symbol next_row outcome : ℕ) (c : Character) (before : List Base) (was_wide : Bool)
+pub begins_17 : (state symbol next_row outcome : ℕ) (c : Character) (before : List BaseCharacter) (was_wide : Bool)
     → symbol < SYMBOL_COUNT → shown_17 symbol ≡ as_read_17 c → Leads17 state symbol next_row outcome → stays_17 state symbol ≡ false
     → carried_17 before ≡ carried_17 (bases_at_17 state) → was_wide ≡ is_wide_base before
     → Stands17 (record {
@@ -131,7 +131,7 @@ begins_17 state symbol next_row outcome c before was_wide symbol_lt shows entry_
     }
 
 -- after a character that joins the last base, the state belongs to the bases with the character attached
-attached_17 : (walk : Walk17) (last : Base) (others : List Base) (stands : Stands17 walk last others)
+attached_17 : (walk : Walk17) (last : BaseCharacter) (others : List BaseCharacter) (stands : Stands17 walk last others)
     (symbol next_row outcome : ℕ) (c : Character) → symbol < SYMBOL_COUNT
     → shown_17 symbol ≡ as_read_17 c → Leads17 stands.state symbol next_row outcome → stays_17 stands.state symbol ≡ true
     → Stands17 (record walk { row = next_row; is_joined = symbol == JOINER }) (with_attached last c) others
@@ -159,7 +159,7 @@ attached_17 walk last others stands symbol next_row outcome c symbol_lt shows en
 -- ---- the bases after the next one
 
 -- the results of all conditions on the bases after the next one
-unfoldable pub facts : List Base → List Bool
+unfoldable pub facts : List BaseCharacter → List Bool
 facts rest = or_edge (is after_final) rest ∷ is (NU ∷ []) rest ∷ or_edge is_not_east_asian rest ∷ is_stop_digit rest ∷ is (VF ∷ []) rest ∷ []
 
 abbrev facts_of : Bool → Bool → LineClass → List Bool
@@ -183,7 +183,7 @@ same_facts false false NU = refl
 same_facts false false VF = refl
 same_facts false false class = refl
 
-facts_kind : (rest : List Base) → facts rest ≡ facts (rest_at (kind rest))
+facts_kind : (rest : List BaseCharacter) → facts rest ≡ facts (rest_at (kind rest))
 unfolding facts
 facts_kind [] = refl
 facts_kind (b ∷ bases) = same_facts (is_east_asian b) (is (NU ∷ []) bases) (class_of b)
@@ -198,12 +198,12 @@ kind_is_below false true class = refl
 kind_is_below false false NU = refl
 kind_is_below false false class = refl
 
-kind_below : (rest : List Base) → nat_lt (kind rest) 11 ≡ true
+kind_below : (rest : List BaseCharacter) → nat_lt (kind rest) 11 ≡ true
 kind_below [] = refl
 kind_below (b ∷ bases) = kind_is_below (is_east_asian b) (is (NU ∷ []) bases) (class_of b)
 
 -- The conditions have the same results for two lists of bases with the same facts.
-module _ (p q : List Base) (alike : facts p ≡ facts q) where
+module _ (p q : List BaseCharacter) (alike : facts p ≡ facts q) where
   final : or_edge (is after_final) p ≡ or_edge (is after_final) q
   unfolding facts
   final = ap (λ l. get_or l 0 false) alike
@@ -243,7 +243,7 @@ asks_nothing OP circle h = cc
 asks_nothing QU circle h = cc
 asks_nothing class circle h = (refl, refl, refl, refl, h)
 
-after_any : (c : Character) (attached : List Character) (rest : List Base) → asks c ≡ false
+after_any : (c : Character) (attached : List Character) (rest : List BaseCharacter) → asks c ≡ false
     → map (λ row. row.after (record { first = c; attached = attached } ∷ rest)) rows_17 ≡ answers_after_17 c []
 unfolding rows_17 rows_before_numbers rows_of_numbers rows_after_numbers
 after_any c attached rest h =
@@ -262,7 +262,7 @@ asked_attaches QU detail h = refl
 asked_attaches class detail h = cc
 
 -- an outcome that is a mark is the same mark before any bases
-pub same_mark : (decided : ℕ) (p q : List Base) → nat_lt decided 4 ≡ true → mark_of_17 decided p ≡ mark_of_17 decided q
+pub same_mark : (decided : ℕ) (p q : List BaseCharacter) → nat_lt decided 4 ≡ true → mark_of_17 decided p ≡ mark_of_17 decided q
 same_mark zero p q lt = refl
 same_mark (suc zero) p q lt = refl
 same_mark (suc (suc zero)) p q lt = refl
@@ -350,7 +350,7 @@ given_17 state symbol outcome b wide place here may free gives lt =
     (parts.0, is_mark_is _ _ parts.1)
 
 -- if the next character begins a base, the mark of the outcome is the mark of the rules
-module _ (walk : Walk17) (last : Base) (others : List Base) (stands : Stands17 walk last others) (symbol next_row outcome : ℕ) (c : Character)
+module _ (walk : Walk17) (last : BaseCharacter) (others : List BaseCharacter) (stands : Stands17 walk last others) (symbol next_row outcome : ℕ) (c : Character)
     (shows : shown_17 symbol ≡ as_read_17 c) (entry_leads : Leads17 stands.state symbol next_row outcome) (begun : stays_17 stands.state symbol ≡ false) where
   free : (bits_in walk).is_joined ≡ true → is unattached (bases_at_17 stands.state) ≡ false
   free joined = sym stands.attaches ∙ joiner_attaches (end_of last).class (sym (ap (λ (b : Bits). b.is_joined) stands.bits) ∙ joined)
@@ -367,7 +367,7 @@ module _ (walk : Walk17) (last : Base) (others : List Base) (stands : Stands17 w
       (may_have_as_read c (shown_17 symbol) shows) free says.gives lt
 
   -- the mark of the rules, derived from the examples with which the table was checked
-  ruled : (place : ℕ) (attached : List Character) (rest : List Base)
+  ruled : (place : ℕ) (attached : List Character) (rest : List BaseCharacter)
       → map (λ row. row.after (record { first = c; attached = attached } ∷ rest)) rows_17 ≡ answers_after_17 c (rest_at place)
       → decide_17 marks_by_row_17 (answered_17 (bits_in walk) (answers_17 (bases_at_17 stands.state)))
       (answers_after_17 (with_width (shown_17 symbol) (is_east_asian (alone c))) (rest_at place))
@@ -390,7 +390,7 @@ module _ (walk : Walk17) (last : Base) (others : List Base) (stands : Stands17 w
       let decided : ℕ = decided_17 outcome (bits_in walk) (is_east_asian (alone c)) in
       elim (cases_Bool (asks c)) [
         | inl asked ↦
-            let rest : List Base = bases_after text in
+            let rest : List BaseCharacter = bases_after text in
             let bases = second_bases c text (asked_attaches c.class c.detail asked) in
             let alike : facts rest ≡ facts (rest_at (kind rest)) = facts_kind rest in
             let below_all : kind rest < kinds_after (shown_17 symbol) = rw (asks_same ∙ asked) (is_below _ _ (kind_below rest)) in
@@ -410,7 +410,7 @@ module _ (walk : Walk17) (last : Base) (others : List Base) (stands : Stands17 w
       ]
 
 -- the next character joins the last base if and only if its symbol joins the last base of the state
-stays_is_17 : (walk : Walk17) (last : Base) (others : List Base) (stands : Stands17 walk last others) (symbol : ℕ) (c : Character)
+stays_is_17 : (walk : Walk17) (last : BaseCharacter) (others : List BaseCharacter) (stands : Stands17 walk last others) (symbol : ℕ) (c : Character)
     → shown_17 symbol ≡ as_read_17 c → stays_with (end_of last) c ≡ stays_17 stands.state symbol
 stays_is_17 walk last others stands symbol c shows =
     ap (λ attaches. is_one_of (CM ∷ ZWJ ∷ []) c.class && not attaches) stands.attaches
@@ -429,13 +429,13 @@ outcome_stays_17 state symbol next_row outcome entry_leads =
     ]
 
 -- one step of the walk
-abbrev pub Passes17 : Walk17 → Base → List Base → Character → ℕ → Type 0
+abbrev pub Passes17 : Walk17 → BaseCharacter → List BaseCharacter → Character → ℕ → Type 0
 Passes17 after last others c decided = Passes (rules V17_0 false) (mark_of_17 decided) (Stands17 after) last others c
 
 -- `Passes17` holds for a character that joins the last base
 pub passes_stay_17 : (walk : Walk17) (symbol next_row outcome : ℕ) (c : Character) → symbol < SYMBOL_COUNT → shown_17 symbol ≡ as_read_17 c
     → next_row ≡ get_or NEXT_ROWS (walk.row + symbol) 0 → outcome ≡ get_or OUTCOMES (walk.row + symbol) 0 → (outcome == STAYS) ≡ true
-    → (last : Base) (others : List Base) → Stands17 walk last others
+    → (last : BaseCharacter) (others : List BaseCharacter) → Stands17 walk last others
     → Passes17 (record walk { row = next_row; is_joined = symbol == JOINER }) last others c NEVER
 passes_stay_17 walk symbol next_row outcome c symbol_lt shows reads_row reads_outcome stay last others stands =
     let entry_leads : Leads17 stands.state symbol next_row outcome = entry_is_right_17 stands.state symbol walk.row next_row outcome stands.below symbol_lt stands.row reads_row reads_outcome in
@@ -450,7 +450,7 @@ pub passes_begin_17 : (walk : Walk17) (symbol next_row outcome decided : ℕ) (i
     → shown_17 symbol ≡ as_read_17 c → next_row ≡ get_or NEXT_ROWS (walk.row + symbol) 0 → outcome ≡ get_or OUTCOMES (walk.row + symbol) 0
     → (outcome == STAYS) ≡ false → is_pictograph ≡ c.is_future_pictograph → next_is_wide ≡ is_east_asian (alone c)
     → decided ≡ decided_17 outcome (bits_in walk) next_is_wide
-    → (last : Base) (others : List Base) → Stands17 walk last others
+    → (last : BaseCharacter) (others : List BaseCharacter) → Stands17 walk last others
     → Passes17 (record {
       row = next_row;
       is_joined = symbol == JOINER;

@@ -2,7 +2,7 @@
 use Rattle.std.proofs.Common.{◌≡◌, ℕ, ◌+◌, ◌-◌, ◌*◌, ◌<◌, ◌≤◌, ◌==◌, nat_lt, Bool, true, false, not, ◌&&◌, ◌||◌, List, [], ◌∷◌, get_or, refl, sym, ap, ◌∙◌, arith, inl, inr}
 use Rattle.std.proofs.lemmas.Bool.{cases_Bool}
 use Rattle.ucd.specs.declared.line_class.LineClass.TheVariants.{CM, CP, NU, OP, ZWJ}
-use Rattle.breaks.specs.Bases.{Base, Character, alone, bases_of}
+use Rattle.breaks.specs.Bases.{BaseCharacter, Character, alone, bases_of}
 use Rattle.breaks.specs.Classes.{is_one_of}
 use Rattle.breaks.specs.Rules.{is}
 use Rattle.breaks.specs.Symbols.{shown_17, as_read_17}
@@ -34,7 +34,7 @@ digit_is true = refl
 digit_is false = refl
 
 -- the mark of an answer depends on the later bases only through whether the nearest one is NU
-same_answer : (c : Character) (answer : ℕ) (rest : List Base) → is_answer c answer ≡ true
+same_answer : (c : Character) (answer : ℕ) (rest : List BaseCharacter) → is_answer c answer ≡ true
     → mark_of_17 answer (digit_or_none (is (NU ∷ []) rest)) ≡ mark_of_17 answer rest
 same_answer c answer rest h =
     elim (cases_Bool (nat_lt answer 4)) [
@@ -65,7 +65,7 @@ right_at question symbol answer c ge lt begins begin shows reads =
     right_by question (shown_17 symbol) answer c.is_wide (may_be c (shown_17 symbol) shows) parts.0 parts.1
 
 -- the facts about the next base depend only on its symbol, its width and whether a base of class NU follows it
-same_bases : (c shown : Character) (attached : List Character) (rest : List Base) → shown ≡ as_read_17 c
+same_bases : (c shown : Character) (attached : List Character) (rest : List BaseCharacter) → shown ≡ as_read_17 c
     → facts (record { first = c; attached = attached } ∷ rest) ≡ facts (alone (with_width shown c.is_wide) ∷ digit_or_none (is (NU ∷ []) rest))
 unfolding facts
 same_bases c shown attached rest shows = rw (shows, digit_is (is (NU ∷ []) rest)) refl
@@ -77,7 +77,7 @@ one_by question answer d false without with_digit = is_mark_is _ _ without
 
 abbrev Said : ℕ → Character → ℕ → Type 0
 Said question c answer =
-    ((attached : List Character) (rest : List Base) → mark_of_17 question (record { first = c; attached = attached } ∷ rest) ≡ mark_of_17 answer rest)
+    ((attached : List Character) (rest : List BaseCharacter) → mark_of_17 question (record { first = c; attached = attached } ∷ rest) ≡ mark_of_17 answer rest)
     × (nat_lt answer 4 ≡ false → is_one_of unattached c.class ≡ false)
     × (answer < DECIDED_COUNT)
 

@@ -4,7 +4,7 @@ use Rattle.ucd.specs.declared.line_class.LineClass.TheVariants.{ZWJ}
 use Rattle.breaks.specs.Classes.{is_same}
 use Rattle.breaks.specs.Seen.{character_in}
 use Rattle.breaks.proofs.FoundLemmas.{last_found}
-use Rattle.breaks.proofs.bases.Base.ends_in_zwj.Goals as goal
+use Rattle.breaks.proofs.bases.BaseCharacter.ends_in_zwj.Goals as goal
 
 pub returns-in-Some : goal.returns-in-Some
 returns-in-Some c =
