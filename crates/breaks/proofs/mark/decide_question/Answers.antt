@@ -1,7 +1,7 @@
 use Rattle.std.proofs.Common.{refl, sym, ◌∙◌, arith}
 use Rattle.breaks.specs.Symbols.{character_by}
 use Rattle.breaks.proofs.WalkLemmas.{asks_on, ends_asking}
-use Rattle.breaks.proofs.mark.mark_asked.Goals as goal
+use Rattle.breaks.proofs.mark.decide_question.Goals as goal
 
 pub loop-i-init : goal.loop-i-init
 loop-i-init g c = record { below = c.requires.below; question = c.requires.question; said = refl }

@@ -4,7 +4,7 @@ use Rattle.breaks.specs.Rules.{rules}
 use Rattle.breaks.specs.Symbols.{character_by}
 use Rattle.breaks.proofs.OrdinaryLemmas.{head_passes, one_of_all, tail_passes}
 use Rattle.breaks.proofs.WalkLemmas.{none_at_all, begins_walk, one_longer, steps, ends}
-use Rattle.breaks.proofs.mark.mark_each.Goals as goal
+use Rattle.breaks.proofs.mark.fill_each.Goals as goal
 
 -- the text is empty
 pub returns-in_default : goal.returns-in_default
@@ -31,10 +31,10 @@ pub loop-i-preserved : goal.loop-i-preserved
 loop-i-preserved g c =
     let lt : c.loop-i.i < length c.loop-i.marks = omega arith in
     record {
-      walks = steps (character_by g.R.Rules.version) _ _ (rules g.R.Rules.version (g.R.Rules.whole_numbers c.args.rules)) _ _ _ c.loop-i.i _ c.loop-i.marks _ c.mark_before.result
-          (omega arith) c.get.ensures c.loop-i.invariant.walks (c.pass-outcome.ensures.passes c.args.rules) c.mark_before.ensures
-          (take_more_set c.loop-i.marks c.loop-i.i c.mark_before.result lt);
-      len = length-set c.loop-i.marks c.loop-i.i c.mark_before.result ∙ c.loop-i.invariant.len;
+      walks = steps (character_by g.R.Rules.version) _ _ (rules g.R.Rules.version (g.R.Rules.whole_numbers c.args.rules)) _ _ _ c.loop-i.i _ c.loop-i.marks _ c.decide_before.result
+          (omega arith) c.get.ensures c.loop-i.invariant.walks (c.pass-outcome.ensures.passes c.args.rules) c.decide_before.ensures
+          (take_more_set c.loop-i.marks c.loop-i.i c.decide_before.result lt);
+      len = length-set c.loop-i.marks c.loop-i.i c.decide_before.result ∙ c.loop-i.invariant.len;
       within = c.pass-outcome.ensures.within;
       accepted = c.loop-i.invariant.accepted;
     }

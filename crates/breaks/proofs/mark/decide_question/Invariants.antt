@@ -1,7 +1,7 @@
 use Rattle.std.proofs.Common.{◌≡◌, ◌<◌, true, map, drop}
 use Rattle.breaks.specs.Passes.{bases_after}
 use Rattle.breaks.specs.Symbols.{character_by}
-use Rattle.breaks.proofs.mark.mark_asked.Given as goal
+use Rattle.breaks.proofs.mark.decide_question.Given as goal
 
 -- the question at a character has the same answer as the original question
 abbrev pub invariant-loop-i : goal.invariant-loop-i

@@ -4,7 +4,7 @@ use Rattle.breaks.specs.Passes.{marks_by}
 use Rattle.breaks.specs.Rules.{rules}
 use Rattle.breaks.specs.Symbols.{character_by}
 use Rattle.breaks.proofs.WalkLemmas.{Walks}
-use Rattle.breaks.proofs.mark.mark_each.Given as goal
+use Rattle.breaks.proofs.mark.fill_each.Given as goal
 
 -- the marks so far, followed by those that the recursion finds for the rest, are the marks of the text
 abbrev pub invariant-loop-i : goal.invariant-loop-i
