@@ -2,7 +2,7 @@ use Rattle.std.proofs.Common.{◌≡◌, ◌+◌, ◌*◌, ◌++◌, ◌≤◌, 
 use Rattle.std.specs.Fmt.{decimal}
 use Rattle.std.specs.List.{flat_map}
 use Rattle.arrayvec.specs.ArrayVec.{array_vec_len}
-use Rattle.tool.proofs.answers.told.Given as goal
+use Rattle.tool.proofs.answers.numbers_answer.Given as goal
 
 -- the reply has `=` and the numbers so far, each after a space
 abbrev pub invariant-loop-number : goal.invariant-loop-number
