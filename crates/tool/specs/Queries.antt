@@ -153,12 +153,12 @@ module _ (print : Print) (width : ℕ) (kept : List Layout) where
   edge_reply (Some edge) = edge_answer edge
   edge_reply None = out_of_range
 
-  abbrev pub left_on : Option Visual → ℕ
-  left_on (Some line) = screen_left print width line
-  left_on None = 0
+  abbrev pub left_columns : Option Visual → ℕ
+  left_columns (Some line) = screen_left print width line
+  left_columns None = 0
 
   abbrev pub at_text : Rules → ℕ → ℕ → List ℕ
-  at_text rules n column = edge_reply (edge_at rules kept n (column - left_on (slice_get (lines_in kept) n)))
+  at_text rules n column = edge_reply (edge_at rules kept n (column - left_columns (slice_get (lines_in kept) n)))
 
   -- the reply to `spans`: the columns of the screen that the characters from position `start` up to `end` cover in line n
   abbrev pub spans_on : ℕ → ℕ → Option ℕ → Option Visual → List ℕ

@@ -11,8 +11,8 @@ ghost use Rattle.tool.specs.Reasons.{reasons_text};
 ghost use Rattle.tool.specs.Queries.{at_text, caret_text, clusters_text, edge_caret_text};
 ghost use Rattle.tool.specs.Queries.{ends_text, hit_text, lines_text, part_text, query_text, runs_text};
 ghost use Rattle.tool.specs.Queries.{size_text, spans_text, step_text, numbers_answer, why_text};
-ghost use Rattle.tool.specs.Queries.{caret_numbers, direction_of, edge_of, empty_left, is_odd_at, left_on};
-ghost use Rattle.tool.specs.Queries.{screen_hit, screen_left, AnswersNot};
+ghost use Rattle.tool.specs.Queries.{caret_numbers, direction_of, edge_of, empty_left, is_odd_at};
+ghost use Rattle.tool.specs.Queries.{left_columns, screen_hit, screen_left, AnswersNot};
 ghost use Rattle.tool.specs.Reading.{Stops};
 
 use crate::answers::{
@@ -241,8 +241,8 @@ fn step_answer<S: ParagraphStore<Kept>>(
 
 // Returns the number of screen columns to the left of the shown part of line `n`, or 0 if there is no such
 // line.
-fn left_on<S: ParagraphStore<Kept>>(session: &Session<S>, print: &Print, n: usize) -> usize
-    ensures { result ≡ left_on print.now session.now.width session.now.kept
+fn left_columns<S: ParagraphStore<Kept>>(session: &Session<S>, print: &Print, n: usize) -> usize
+    ensures { result ≡ left_columns print.now session.now.width session.now.kept
         (slice_get (lines_in session.now.kept) n) }
 {
     match session.line(n) {
@@ -261,7 +261,7 @@ fn at_answer<S: ParagraphStore<Kept>>(
         ≡ at_text print.now session.now.width session.now.kept (rules_of session.now.engine) n column) }
     ensures memory { OnErr result (n < length (lines_in session.now.kept)) }
 {
-    match session.edge_at(n, column.saturating_sub(left_on(session, print, n)))? {
+    match session.edge_at(n, column.saturating_sub(left_columns(session, print, n)))? {
         Some(edge) => Ok(edge_answer(edge)),
         None => Ok(out_of_range()),
     }
