@@ -317,7 +317,7 @@ fn write_lines<W: Sink, S: ParagraphStore<Kept>>(
 
 // Writes the reply to `text`: the number of bytes and then `count` characters, starting at `pos`, or
 // `out_of_range`. `written` is the number of bytes already written.
-fn write_part<W: Sink, S: ParagraphStore<Kept>>(
+fn write_text<W: Sink, S: ParagraphStore<Kept>>(
     session: &Session<S>,
     writer: &mut W,
     written: u64,
@@ -474,7 +474,7 @@ pub fn write_query<W: Sink, S: ParagraphStore<Kept>>(
         Query::Lines(first, count) => {
             return write_lines(session, writer, written, print, first, count);
         }
-        Query::Text(pos, count) => return write_part(session, writer, written, pos, count),
+        Query::Text(pos, count) => return write_text(session, writer, written, pos, count),
         Query::Spans(n, start, end) => {
             return write_selection(session, writer, written, print, n, start, end);
         }

@@ -4,7 +4,7 @@ use Rattle.tool.specs.Queries.{numbers_answer}
 use Rattle.tool.specs.Reading.{Stops}
 use Rattle.tool.proofs.QueryLemmas.{each_stops-after, of_sink, part_within, same_stop, stops-after, stops-before}
 use Rattle.lines.proofs.WriteLemmas.{passed-append}
-use Rattle.tool.proofs.queries.write_part.Goals as goal
+use Rattle.tool.proofs.queries.write_text.Goals as goal
 
 pub returns-in_err-total-clause-err : goal.returns-in_err-total-clause-err
 returns-in_err-total-clause-err g c =

@@ -5,7 +5,7 @@ use Rattle.lines.proofs.WriteLemmas.{pieces-more, pieces-stopped, same_fault}
 use Rattle.session.proofs.BorderLemmas.{length-visuals}
 use Rattle.session.proofs.PrintLemmas.{line_pieces, line_pieces_all, line_pieces_whole, line_piece, line_within, part_few}
 use Rattle.session.proofs.WidthLemmas.{none_read}
-use Rattle.session.proofs.printing.write_part.Goals as goal
+use Rattle.session.proofs.printing.write_in_paragraph.Goals as goal
 
 pub overflow_add-from : goal.overflow_add-from
 overflow_add-from g c = omega (arith, c.requires.within, c.line_count-lines.ensures, c.line_count-lines.type_inv, c.loop-n-test.true)

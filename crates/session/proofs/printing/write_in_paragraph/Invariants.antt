@@ -3,7 +3,7 @@ use Rattle.std.specs.List.{concat}
 use Rattle.lines.specs.Layouts.{visuals}
 use Rattle.lines.specs.Writing.{PassedOn}
 use Rattle.session.proofs.PrintLemmas.{line_pieces}
-use Rattle.session.proofs.printing.write_part.Given as goal
+use Rattle.session.proofs.printing.write_in_paragraph.Given as goal
 
 -- the lines so far are written
 abbrev pub invariant-loop-n : goal.invariant-loop-n

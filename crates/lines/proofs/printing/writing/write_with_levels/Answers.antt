@@ -10,8 +10,8 @@ use Rattle.lines.specs.Writing.{PassedOn, StoppedIn}
 use Rattle.reorder.proofs.PlainLemmas.{plain_chars}
 use Rattle.lines.proofs.WrittenLemmas.{is_part}
 use Rattle.lines.specs.Reordering.{classes_by, reorders}
-use Rattle.lines.proofs.printing.writing.write_part.Goals as goal
-use Rattle.lines.proofs.printing.writing.write_part.Goals.{then-form-via-then-form, then-form-via-else-form+then-is_plain}
+use Rattle.lines.proofs.printing.writing.write_with_levels.Goals as goal
+use Rattle.lines.proofs.printing.writing.write_with_levels.Goals.{then-form-via-then-form, then-form-via-else-form+then-is_plain}
 
 pub write_visual-requires-clause-within : goal.write_visual-requires-clause-within
 write_visual-requires-clause-within g c =
