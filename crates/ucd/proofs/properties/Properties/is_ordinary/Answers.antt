@@ -1,7 +1,7 @@
 use Rattle.std.proofs.Common.{◌≡◌, ◌%◌, ◌/◌, ◌==◌, ◌∙◌, ap, sym, arith, false}
 use Rattle.std.proofs.lemmas.Bool.Decides.{nat_tests}
 use Rattle.ucd.specs.Bits.{separator_at}
-use Rattle.ucd.proofs.properties.Properties.is_quiet.Goals as goal
+use Rattle.ucd.proofs.properties.Properties.is_ordinary.Goals as goal
 
 pub returns : goal.returns
 returns c is =
