@@ -1,6 +1,6 @@
 use Rattle.std.proofs.Common.{ℕ, sym, subst, ◌∙◌}
 use Rattle.ucd.specs.Runs.{EndsFrom}
-use Rattle.ucd.proofs.runs.Left.run_at.Goals as goal
+use Rattle.ucd.proofs.runs.Cursors.run_at.Goals as goal
 
 -- each intermediate run starts at `start`
 pub applied-run-requires-2-clause-ends : goal.applied-run-requires-2-clause-ends
