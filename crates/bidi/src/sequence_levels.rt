@@ -8,7 +8,7 @@ ghost use Rattle.bidi.specs.Levels.{put, sequence_levels};
 ghost use Rattle.bidi.specs.Paragraphs.{AreFor, AreSides, AreSidesBetween, IsReady, OfAllTexts, Takes};
 ghost use Rattle.bidi.specs.Paragraphs.{resolved_by, sequence_in, write_by};
 ghost use Rattle.ucd.specs.Within.{AreWithin};
-ghost use Rattle.bidi.specs.Runs.{IsRunEnd, marked};
+ghost use Rattle.bidi.specs.Runs.{IsRunEnd, flagged};
 ghost use Rattle.bidi.specs.WeakTable.{is_side};
 
 use crate::bracket_type::BracketType;
@@ -313,9 +313,9 @@ impl Sequence {
 
 // Sets the flag at `next`, where a run that continues an earlier run starts. Does nothing if `next` is
 // `None`.
-pub(crate) fn mark(continued: &mut [bool], next: Option<usize>)
+pub(crate) fn set_flag(continued: &mut [bool], next: Option<usize>)
     requires { IfSome next (λ place. place < length continued.old) }
-    ensures { continued.new ≡ marked continued.old next }
+    ensures { continued.new ≡ flagged continued.old next }
 {
     if let Some(next) = next {
         continued[next] = true;
@@ -343,7 +343,7 @@ pub(crate) fn resolve_runs(
         if !continued[start] {
             sequence.resolve(paragraph, start, end, done)?;
         }
-        mark(continued, next_run(levels, paragraph.matches, end));
+        set_flag(continued, next_run(levels, paragraph.matches, end));
         start = end;
     }
     Ok(())
