@@ -5,7 +5,7 @@ use Rattle.std.proofs.lemmas.Bool.{and_parts, cases_Bool, cond-true, cond-false}
 use Rattle.std.proofs.lemmas.List.Sums.{sum_by-cons}
 use Rattle.ucd.specs.declared.bidi_class.BidiClass.{BidiClass}
 use Rattle.ucd.specs.declared.bracket.Bracket.{Bracket}
-use Rattle.ucd.specs.Classes.{class_at, is_mark}
+use Rattle.ucd.specs.Classes.{class_at, is_nonspacing_mark}
 use Rattle.ucd.specs.Least.{least}
 use Rattle.bidi.specs.Brackets.{Pair, closer_of, fits, greatest, is_closer, is_closing, is_full, is_live, is_opener, is_opening, is_other, is_pair_of, paired_with, pairs_before, pairs_of, resolve_pairs}
 use Rattle.bidi.specs.Explicit.{directed, level_at, type_at}
@@ -104,7 +104,7 @@ module _ (look : ℕ → Option Bracket) where
   sequence-alike : (text other : List ℕ) → AreAlike text other → (level : ℕ) (sos eos : BidiClass) (types : List BidiClass)
       → sequence_levels look level sos eos text types ≡ sequence_levels look level sos eos other types
   sequence-alike text other alike level sos eos types =
-      ap (λ ps. map (implicit_level level) (neutral (direction level) sos eos (resolve_pairs (direction level) sos (map is_mark types) (closer_of ps) (weak sos types))))
+      ap (λ ps. map (implicit_level level) (neutral (direction level) sos eos (resolve_pairs (direction level) sos (map is_nonspacing_mark types) (closer_of ps) (weak sos types))))
       (pairs-alike text other alike (weak sos types))
 
   put-alike : (base : ℕ) (text other : List ℕ) → AreAlike text other → (classes : List BidiClass) (levels : List ℕ) (types : List BidiClass) (parts : List (List ℕ)) (done : List ℕ)

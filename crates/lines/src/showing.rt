@@ -395,7 +395,7 @@ fn place_part(line: &Text<'_>, levels: &[u8], places: &mut [u32])
     }
 }
 
-// Returns whether L3 is applied, either to clusters or to marks.
+// Returns whether L3 is applied, either to clusters or to nonspacing marks.
 fn reorders(options: Options) -> bool
     ensures { result ≡ reorders options }
 {
