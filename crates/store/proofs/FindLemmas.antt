@@ -13,11 +13,11 @@ use Rattle.store.proofs.FitsLemmas.{sums_less}
 use Rattle.store.proofs.ListLemmas.{take_far}
 
 module _ {P : Type 0} (G : Ghosts P) (unit : Counted) where
-  -- the counts of a place are the sums of the items before it
+  -- the counts of a position are the sums of the items before it
   pub counts_at : (items : List P) (n : ℕ) (f : Position) → IsPosition G unit items n f → CountsBefore G.bytes G.utf16 items (found_at f)
   counts_at items n f is =
       let front : take f.index items ≡ is.finds.before =
-      ap (λ (k : ℕ). take k items) is.finds.index ∙ ap (λ (xs : List P). take (length is.finds.before) xs) is.finds.position
+      ap (λ (k : ℕ). take k items) is.finds.index ∙ ap (λ (xs : List P). take (length is.finds.before) xs) is.finds.place
       ∙ take-append_seam is.finds.before (is.finds.item ∷ is.finds.after) in record {
         bytes_before = is.sums.each Byte ∙ ap (sum_by G.bytes) (sym front);
         utf16_before = is.sums.each Utf16 ∙ ap (sum_by G.utf16) (sym front);
@@ -31,7 +31,7 @@ module _ {P : Type 0} (G : Ghosts P) (unit : Counted) where
       before = before;
       item = item;
       after = after;
-      position = position_is;
+      place = position_is;
       index = index_is;
       rest = rest_is;
       within = within_is;
@@ -48,7 +48,7 @@ module _ {P : Type 0} (G : Ghosts P) (unit : Counted) where
     found_before n f g index_is rest_is sums_are found =
         let at = found.finds in
         position_of at.before at.item (at.after ++ x ∷ r) (l ++ x ∷ r) n g
-        (ap (λ ys. ys ++ x ∷ r) at.position ∙ append_assoc at.before (at.item ∷ at.after) (x ∷ r))
+        (ap (λ ys. ys ++ x ∷ r) at.place ∙ append_assoc at.before (at.item ∷ at.after) (x ∷ r))
         (index_is ∙ at.index)
         (omega (arith, at.rest))
         (omega (arith, at.within))
@@ -60,11 +60,11 @@ module _ {P : Type 0} (G : Ghosts P) (unit : Counted) where
     at_item n g index_is rest_is within_is sums_are =
         position_of l x r (l ++ x ∷ r) n g (λ i. l ++ x ∷ r) index_is rest_is within_is sums_are
 
-    -- if the sums of all items fit, so do the sums of the items before a place after x
+    -- if the sums of all items fit, so do the sums of the items before a position after x
     pub before_fit : (k : ℕ) (f : Position) (found : IsPosition G unit r k f) → SumsFit G (l ++ x ∷ r) → SumsFit G (l ++ x ∷ found.finds.before)
     before_fit k f found fit =
         let at = found.finds in
-        let whole = ap (λ ys. l ++ x ∷ ys) at.position ∙ sym (append_assoc l (x ∷ at.before) (at.item ∷ at.after)) in
+        let whole = ap (λ ys. l ++ x ∷ ys) at.place ∙ sym (append_assoc l (x ∷ at.before) (at.item ∷ at.after)) in
         sums_less G (l ++ x ∷ r) (l ++ x ∷ at.before)
         (λ (size : P → ℕ). omega (arith, ap (sum_by size) whole, sum_by-append size (l ++ x ∷ at.before) (at.item ∷ at.after)))
         fit
@@ -76,7 +76,7 @@ module _ {P : Type 0} (G : Ghosts P) (unit : Counted) where
     found_after n k f g index_is rest_is sum_is found sums_are =
         let at = found.finds in
         position_of (l ++ x ∷ at.before) at.item at.after (l ++ x ∷ r) n g
-        (ap (λ ys. l ++ x ∷ ys) at.position ∙ sym (append_assoc l (x ∷ at.before) (at.item ∷ at.after)))
+        (ap (λ ys. l ++ x ∷ ys) at.place ∙ sym (append_assoc l (x ∷ at.before) (at.item ∷ at.after)))
         (omega (arith, at.index, length-append l (x ∷ at.before)))
         (omega (arith, at.rest, sum_by-append (measure G unit) l (x ∷ at.before), sum_by-cons (measure G unit) x at.before))
         (omega (arith, at.within))

@@ -12,7 +12,7 @@ pub record Finds {P : Type 0} (size chars lines : P → ℕ) (items : List P) (n
   pub before : List P
   pub item : P
   pub after : List P
-  pub position : items ≡ before ++ item ∷ after
+  pub place : items ≡ before ++ item ∷ after
   pub index : found.index ≡ length before
   pub rest : sum_by size before + found.rest ≡ n
   pub within : found.rest < size item
@@ -31,7 +31,7 @@ pub record CountsBefore {P : Type 0} (bytes utf16 : P → ℕ) (items : List P) 
   pub bytes_before : found.bytes_before ≡ sum_by bytes (take found.index items)
   pub utf16_before : found.utf16_before ≡ sum_by utf16 (take found.index items)
 
--- converts a place to a search result
+-- converts a position to a search result
 abbrev pub found_at : Position → Found
 found_at position = record {
   index = position.index;
