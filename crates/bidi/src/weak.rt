@@ -201,8 +201,8 @@ pub(crate) fn is_left(class: BidiClass) -> bool
     matches!(class, BidiClass::L)
 }
 
-// Returns the type of a nonspacing mark after a given type (W1). Nonspacing nonspacing marks are rare, so a
-// separate function keeps their code out of the loop.
+// Returns the type of a nonspacing mark after a given type (W1). These are rare, so a separate function keeps
+// their code out of the loop.
 #[cold]
 #[inline(never)]
 fn mark_after(before: BidiClass) -> BidiClass
