@@ -8,8 +8,8 @@ use Rattle.std.proofs.lemmas.List.{append-nil, reverse-append, length-reverse, t
 
 module _ {A : Type 0} where
   -- a list is the items before an index, the item there, and those after it
-  pub at_position : (xs : List A) (i : ℕ) (x : A) → i < length xs → x ≡ get_or xs i x → xs ≡ take i xs ++ x ∷ drop (i + 1) xs
-  at_position xs i x h e =
+  pub at_place : (xs : List A) (i : ℕ) (x : A) → i < length xs → x ≡ get_or xs i x → xs ≡ take i xs ++ x ∷ drop (i + 1) xs
+  at_place xs i x h e =
       let f : drop i xs ≡ get_or xs i x ∷ drop (i + 1) xs = rw (add-one) (drop-cons xs i x h) in
       sym (take-append-drop i xs) ∙ ap (λ ys. take i xs ++ ys) (f ∙ ap (λ y. y ∷ drop (i + 1) xs) (sym e))
 
