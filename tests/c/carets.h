@@ -113,7 +113,7 @@ static inline hordguli_edge left_edge(const unit *u) { return u->level % 2 == 0 
 static inline hordguli_edge right_edge(const unit *u) { return u->level % 2 == 0 ? after(u->end) : before(u->start); }
 
 /* The caret at the end of a line, in its paragraph's direction */
-static inline hordguli_caret line_end(size_t line) {
+static inline hordguli_caret end_caret(size_t line) {
     const hordguli_line_info *info = &lines[line];
     return (hordguli_caret){line, info->base == 0 ? info->columns : 0, info->base, 0};
 }
@@ -123,7 +123,7 @@ static inline hordguli_caret caret_beside(size_t pos, int is_after) {
     const character *c = &characters[pos];
     const unit *u = c->unit == NONE ? NULL : &units[c->unit];
     size_t left = c->left, right = c->right;
-    if (!c->is_shown) return line_end(c->line);
+    if (!c->is_shown) return end_caret(c->line);
     if (u != NULL && (is_after ? pos + 1 == u->end : pos == u->start)) {
         left = u->left, right = u->right;
         return (hordguli_caret){c->line, is_after == (u->level % 2 == 0) ? right : left, c->level, 0};
@@ -137,7 +137,7 @@ static inline int reference_caret(hordguli_edge edge, hordguli_caret *caret) {
     if (edge.side == HORDGULI_AFTER) *caret = caret_beside(edge.pos - 1, 1);
     else if (edge.pos < length) *caret = caret_beside(edge.pos, 0);
     else if (starts_next_line()) *caret = (hordguli_caret){line_count, 0, options & 1, 0};
-    else *caret = line_end(line_count - 1);
+    else *caret = end_caret(line_count - 1);
     return 1;
 }
 

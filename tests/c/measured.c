@@ -517,8 +517,8 @@ static void lines_are_right(void) {
 /* The place of the caret for a position: at the leading edge of the character itself, not of its unit */
 static hordguli_caret own_caret(size_t pos) {
     const character *c = &characters[pos];
-    if (pos == length) return starts_next_line() ? (hordguli_caret){line_count, 0, options & 1, 0} : line_end(line_count - 1);
-    if (!c->is_shown) return line_end(c->line);
+    if (pos == length) return starts_next_line() ? (hordguli_caret){line_count, 0, options & 1, 0} : end_caret(line_count - 1);
+    if (!c->is_shown) return end_caret(c->line);
     return (hordguli_caret){c->line, c->level % 2 == 0 ? c->left : c->right, c->level, 0};
 }
 

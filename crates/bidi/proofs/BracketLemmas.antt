@@ -18,7 +18,7 @@ use Rattle.bidi.specs.Closers.{closer_in, AreNested}
 use Rattle.bidi.specs.Neighbours.{nearest}
 use Rattle.bidi.specs.Neutral.{agree, side}
 use Rattle.bidi.specs.Resolving.{IsClear}
-use Rattle.ucd.specs.Classes.{is_mark}
+use Rattle.ucd.specs.Classes.{is_nonspacing_mark}
 use Rattle.bidi.specs.Weak.{is_left}
 
 -- ---- the length and the items of a range of a list
@@ -59,7 +59,7 @@ module _ {T : Type 0} where
       list_any_none p (slice_range xs a b) (All-from_get_or (λ x. p x ≡ false) (slice_range xs a b) d (λ i h.
       ap p (range_item xs a b i d (omega arith)) ∙ none (a + i) (omega arith) (omega arith)))
 
--- all characters after the bracket at p, up to and including q, are marks
+-- all characters after the bracket at p, up to and including q, are nonspacing marks
 pub record Row (marks : List Bool) (p q : ℕ) : Type 0 where
   pub order : p ≤ q
   pub marked : (m : ℕ) → p < m → m ≤ q → get_or marks m false ≡ true
@@ -95,8 +95,8 @@ pub no_Row : (marks : List Bool) (p q : ℕ) → q < length marks → (Row marks
 no_Row marks p q within none =
     elim (cases_Bool (is_set_with marks p q)) [ inl set ↦ absurd (none (set-Row marks p q within set)) | inr free ↦ free ]
 
--- Setting the bracket at p sets the types of the bracket and the marks directly after it to the direction. All other
--- types stay the same.
+-- Setting the bracket at p sets the types of the bracket and the nonspacing marks directly after it to the direction.
+-- All other types stay the same.
 pub set_with-at : (marks : List Bool) (d : BidiClass) (types : List BidiClass) (p q : ℕ) (e : BidiClass) → q < length types
     → get_or (set_with marks d types p) q e ≡ (if is_set_with marks p q then d else class_at types q)
 set_with-at marks d types p q e within =
@@ -115,13 +115,13 @@ pub set_with-kept : (marks : List Bool) (d : BidiClass) (types : List BidiClass)
 set_with-kept marks d types p q e within free =
     set_with-at marks d types p q e within ∙ cond-false (is_set_with marks p q) d (class_at types q) free
 
--- The state of the pass over the marks after the bracket at `place`. The bracket and the marks before k have
--- been set.
+-- The state of the pass over the nonspacing marks after the bracket at `place`. The bracket and the nonspacing marks
+-- before k have been set.
 pub record Marked (explicit old current : List BidiClass) (d : BidiClass) (place k : ℕ) : Type 0 where
   pub sizes : length current ≡ length old
   pub reached : place < k
   pub bounded : k ≤ length old
-  pub marked : (m : ℕ) → place < m → m < k → is_mark (class_at explicit m) ≡ true
+  pub marked : (m : ℕ) → place < m → m < k → is_nonspacing_mark (class_at explicit m) ≡ true
   pub done : (m : ℕ) → place ≤ m → m < k → class_at current m ≡ d
   pub front : (m : ℕ) → m < place → class_at current m ≡ class_at old m
   pub rest : (m : ℕ) → k ≤ m → class_at current m ≡ class_at old m
@@ -138,7 +138,7 @@ Marked-first explicit old d place within = record {
 }
 
 pub Marked-next : (explicit old current : List BidiClass) (d : BidiClass) (place k : ℕ) (e : BidiClass) → Marked explicit old current d place k → k < length current
-    → length explicit ≡ length old → is_mark (get_or explicit k e) ≡ true → Marked explicit old (set current k d) d place (k + 1)
+    → length explicit ≡ length old → is_nonspacing_mark (get_or explicit k e) ≡ true → Marked explicit old (set current k d) d place (k + 1)
 Marked-next explicit old current d place k e w within sizes mark =
     let same : length current ≡ length old = w.sizes in
     let from : place < k = w.reached in
@@ -147,7 +147,7 @@ Marked-next explicit old current d place k e w within sizes mark =
       reached = omega arith;
       bounded = omega arith;
       marked = λ m above below. elim (cases_eq m k) [
-        | inl last ↦ ap (λ n. is_mark (get_or explicit n ON)) last ∙ ap is_mark (get_or_default explicit k ON e (omega arith)) ∙ mark
+        | inl last ↦ ap (λ n. is_nonspacing_mark (get_or explicit n ON)) last ∙ ap is_nonspacing_mark (get_or_default explicit k ON e (omega arith)) ∙ mark
         | inr ne ↦ w.marked m above (omega arith)
       ];
       done = λ m above below. elim (cases_eq m k) [
@@ -158,14 +158,14 @@ Marked-next explicit old current d place k e w within sizes mark =
       rest = λ m above. get_or-set_other current k m d ON (λ e. omega (arith, e)) ∙ w.rest m (omega arith);
     }
 
-mark_at : (explicit : List BidiClass) (m : ℕ) → get_or (map is_mark explicit) m false ≡ is_mark (class_at explicit m)
-mark_at explicit m = get_or-map is_mark explicit m ON
+mark_at : (explicit : List BidiClass) (m : ℕ) → get_or (map is_nonspacing_mark explicit) m false ≡ is_nonspacing_mark (class_at explicit m)
+mark_at explicit m = get_or-map is_nonspacing_mark explicit m ON
 
 pub Marked-end : (explicit old current : List BidiClass) (d : BidiClass) (place k : ℕ) → Marked explicit old current d place k → length explicit ≡ length old
-    → (k < length old → is_mark (class_at explicit k) ≡ false) → current ≡ set_with (map is_mark explicit) d old place
+    → (k < length old → is_nonspacing_mark (class_at explicit k) ≡ false) → current ≡ set_with (map is_nonspacing_mark explicit) d old place
 Marked-end explicit old current d place k w sizes stops =
-    let marks : List Bool = map is_mark explicit in
-    let size : length marks ≡ length old = length-map explicit is_mark ∙ sizes in
+    let marks : List Bool = map is_nonspacing_mark explicit in
+    let size : length marks ≡ length old = length-map explicit is_nonspacing_mark ∙ sizes in
     let from : place < k = w.reached in
     fill_by_all (λ m. if is_set_with marks place m then d else class_at old m) current (length old) ON w.sizes (λ m within.
     elim (cases_lt m place) [
@@ -175,7 +175,7 @@ Marked-end explicit old current d place k w sizes stops =
         | inl inside ↦ w.done m above inside ∙ sym (cond-true (is_set_with marks place m) d (class_at old m)
             (Row-set marks place m (omega arith) (record { order = above; marked = λ i after upto. mark_at explicit i ∙ w.marked i after (omega arith) })))
         | inr after ↦ w.rest m after ∙ sym (cond-false (is_set_with marks place m) d (class_at old m)
-            (no_Row marks place m (omega arith) (λ row. both_ways (is_mark (class_at explicit k)) (stops (omega arith))
+            (no_Row marks place m (omega arith) (λ row. both_ways (is_nonspacing_mark (class_at explicit k)) (stops (omega arith))
             (sym (mark_at explicit k) ∙ row.marked k (omega arith) (omega arith)))))
       ]
     ])
@@ -346,12 +346,12 @@ take-set_pair marks types a b None front within sizes = refl
 -- result of N0.
 pub record Resolved (embedding sos : BidiClass) (explicit : List BidiClass) (closers : List ℕ) (old current : List BidiClass) (k : ℕ) : Type 0 where
   pub changed : Changed closers old current k
-  pub so_far : fold (λ types a. pair_step embedding sos (map is_mark explicit) types a (closer_in closers a)) current (range_with_len k (length old - k))
-      ≡ resolve_pairs embedding sos (map is_mark explicit) (closer_in closers) old
+  pub so_far : fold (λ types a. pair_step embedding sos (map is_nonspacing_mark explicit) types a (closer_in closers a)) current (range_with_len k (length old - k))
+      ≡ resolve_pairs embedding sos (map is_nonspacing_mark explicit) (closer_in closers) old
 
 pub Resolved-start : (embedding sos : BidiClass) (explicit : List BidiClass) (closers : List ℕ) (old : List BidiClass) → Resolved embedding sos explicit closers old old 0
 Resolved-start embedding sos explicit closers old =
-    let f : List BidiClass → ℕ → List BidiClass = λ types a. pair_step embedding sos (map is_mark explicit) types a (closer_in closers a) in
+    let f : List BidiClass → ℕ → List BidiClass = λ types a. pair_step embedding sos (map is_nonspacing_mark explicit) types a (closer_in closers a) in
     let size : length old - 0 ≡ length old = omega arith in
     record {
       changed = record { sizes = refl; cases = λ q below. inl refl };
@@ -360,11 +360,11 @@ Resolved-start embedding sos explicit closers old =
 
 Resolved-step : (embedding sos : BidiClass) (explicit : List BidiClass) (closers : List ℕ) (old current next : List BidiClass) (k : ℕ)
     → Resolved embedding sos explicit closers old current k → k < length old
-    → pair_step embedding sos (map is_mark explicit) current k (closer_in closers k) ≡ next
+    → pair_step embedding sos (map is_nonspacing_mark explicit) current k (closer_in closers k) ≡ next
     → Changed closers old next (k + 1)
     → Resolved embedding sos explicit closers old next (k + 1)
 Resolved-step embedding sos explicit closers old current next k r within step changed =
-    let f : List BidiClass → ℕ → List BidiClass = λ types a. pair_step embedding sos (map is_mark explicit) types a (closer_in closers a) in
+    let f : List BidiClass → ℕ → List BidiClass = λ types a. pair_step embedding sos (map is_nonspacing_mark explicit) types a (closer_in closers a) in
     let more : suc (length old - (k + 1)) ≡ length old - k = omega arith in
     record {
       changed = changed;
@@ -377,12 +377,12 @@ Resolved-step embedding sos explicit closers old current next k r within step ch
 pub Resolved-pair : (embedding sos : BidiClass) (explicit : List BidiClass) (closers : List ℕ) (old current : List BidiClass) (k : ℕ)
     → Resolved embedding sos explicit closers old current k → k < length old → length explicit ≡ length old
     → slice_index closers k < length closers → k < slice_index closers k
-    → (next : List BidiClass) → next ≡ set_pair (map is_mark explicit) current k (slice_index closers k) (pair_direction (is_left embedding) sos current k (slice_index closers k))
+    → (next : List BidiClass) → next ≡ set_pair (map is_nonspacing_mark explicit) current k (slice_index closers k) (pair_direction (is_left embedding) sos current k (slice_index closers k))
     → Resolved embedding sos explicit closers old next (k + 1)
 Resolved-pair embedding sos explicit closers old current k r within sizes paired after next made =
-    let marks : List Bool = map is_mark explicit in
+    let marks : List Bool = map is_nonspacing_mark explicit in
     let b : ℕ = slice_index closers k in
-    let size : length marks ≡ length old = length-map explicit is_mark ∙ sizes in
+    let size : length marks ≡ length old = length-map explicit is_nonspacing_mark ∙ sizes in
     Resolved-step embedding sos explicit closers old current next k r within
     (ap (pair_step embedding sos marks current k) (cond-true (nat_lt b (length closers)) (Some b) None (lt-ltb b (length closers) paired)) ∙ sym made)
     (let P : List BidiClass → Type 0 = λ types. Changed closers old types (k + 1) in
@@ -395,7 +395,7 @@ pub Resolved-none : (embedding sos : BidiClass) (explicit : List BidiClass) (clo
     → (next : List BidiClass) → next ≡ current
     → Resolved embedding sos explicit closers old next (k + 1)
 Resolved-none embedding sos explicit closers old current k r within free next same =
-    let marks : List Bool = map is_mark explicit in
+    let marks : List Bool = map is_nonspacing_mark explicit in
     let b : ℕ = slice_index closers k in
     let P : List BidiClass → Type 0 = λ types. Changed closers old types (k + 1) in
     Resolved-step embedding sos explicit closers old current next k r within

@@ -5,7 +5,7 @@ use Rattle.std.proofs.lemmas.Bool.{cond-true, cond-false, cases_Bool, cases_eq, 
 use Rattle.std.proofs.lemmas.List.{get_or-map, length-map}
 use Rattle.std.proofs.lemmas.List.FromFn.{fill_by_all, get_or-map-range_with_len, length-map-range_with_len}
 use Rattle.std.proofs.lemmas.List.Sums.{fold-append}
-use Rattle.ucd.specs.Classes.{class_at, is_mark}
+use Rattle.ucd.specs.Classes.{class_at, is_nonspacing_mark}
 use Rattle.ucd.specs.Least.{least}
 use Rattle.ucd.specs.declared.bidi_class.BidiClass.{BidiClass}
 use Rattle.ucd.specs.declared.bracket.Bracket.{Bracket}
@@ -40,7 +40,7 @@ if-same : {T : Type 0} (b : Bool) (x : T) → (if b then x else x) ≡ x
 if-same true x = refl
 if-same false x = refl
 
--- the run of marks after a bracket continues at a mark, and ends at any other character
+-- the run of nonspacing marks after a bracket continues at a nonspacing mark, and ends at any other character
 set-more : (marks : List Bool) (p k : ℕ) → p ≤ k → suc k < length marks → get_or marks (suc k) false ≡ true → is_set_with marks p (suc k) ≡ is_set_with marks p k
 set-more marks p k order within mark =
     elim (cases_Bool (is_set_with marks p k)) [
@@ -69,7 +69,7 @@ and-true : (a b : Bool) → b ≡ true → (a && b) ≡ a
 and-true true b e = e
 and-true false b e = refl
 
--- a pass that carries along the bracket with which N0 sets marks finds the same bracket as the definition
+-- a pass that carries along the bracket with which N0 sets nonspacing marks finds the same bracket as the definition
 pub holder-is : (sets : ℕ → Bool) (marks : List Bool) (k : ℕ) → k < length marks
     → greatest (λ p. sets p && is_set_with marks p k) k ≡ (if get_or marks k false then holder sets marks k else None)
 holder-is sets marks zero within = sym (if-same (get_or marks 0 false) None)
@@ -129,7 +129,7 @@ module _ (look : ℕ → Option Bracket) (embedding sos : BidiClass) (text : Lis
     (openers : List Opener) (partners : List ℕ) (full : Option ℕ) (sized : length kinds ≡ length types) (marked : length explicit ≡ length types)
     (are : kinds ≡ bracket_types look text) (found : ArePartners look text types openers partners full) where
   abbrev pub decision_at : ℕ → Decision
-  decision_at a = decision_by (is_left embedding) sos (resolved_before embedding sos (map is_mark explicit) (closer_by partners) types a) a (closer_by partners a)
+  decision_at a = decision_by (is_left embedding) sos (resolved_before embedding sos (map is_nonspacing_mark explicit) (closer_by partners) types a) a (closer_by partners a)
 
   abbrev pub unpaired_at : ℕ → Option BracketCase
   unpaired_at k = unpaired_by openers full (bracket_at kinds k) (class_at types k) k
@@ -142,11 +142,11 @@ module _ (look : ℕ → Option Bracket) (embedding sos : BidiClass) (text : Lis
 
   -- reading the closing brackets from the list of partners yields the same types for the pair that opens at a
   types-are : (a : ℕ) → a ≤ length types
-      → resolved_before embedding sos (map is_mark explicit) (closer_by partners) types a ≡ types_for look embedding sos text explicit types a
+      → resolved_before embedding sos (map is_nonspacing_mark explicit) (closer_by partners) types a ≡ types_for look embedding sos text explicit types a
   types-are a within =
-      fold-same (λ current i. pair_step embedding sos (map is_mark explicit) current i (closer_by partners i))
-      (λ current i. pair_step embedding sos (map is_mark explicit) current i (closer_of (pairs_of look text types) i)) 0 a types
-      (λ k current from to. ap (pair_step embedding sos (map is_mark explicit) current k) (closer-is k (omega arith)))
+      fold-same (λ current i. pair_step embedding sos (map is_nonspacing_mark explicit) current i (closer_by partners i))
+      (λ current i. pair_step embedding sos (map is_nonspacing_mark explicit) current i (closer_of (pairs_of look text types) i)) 0 a types
+      (λ k current from to. ap (pair_step embedding sos (map is_nonspacing_mark explicit) current k) (closer-is k (omega arith)))
 
   decision-is : (a b : ℕ) → a < length types → closer_of (pairs_of look text types) a ≡ Some b
       → decision_at a ≡ decision_by (is_left embedding) sos (types_for look embedding sos text explicit types a) a (Some b)
@@ -200,7 +200,7 @@ module _ (look : ℕ → Option Bracket) (embedding sos : BidiClass) (text : Lis
       ap (λ i. decision_at (min k i)) (paired-some k j within e).0
       ∙ decision-is (min k j) (max k j) (omega arith) (partner-is look text types k j e).closer
 
-  case-is : (k : ℕ) → k < length types → case_by partners decision_at unpaired_at (map is_mark explicit) k ≡ case_at look embedding sos text explicit types k
+  case-is : (k : ℕ) → k < length types → case_by partners decision_at unpaired_at (map is_nonspacing_mark explicit) k ≡ case_at look embedding sos text explicit types k
   case-is k within =
       elim (cases_Option (pairs_are k)) [
         | inl none ↦
@@ -212,11 +212,11 @@ module _ (look : ℕ → Option Bracket) (embedding sos : BidiClass) (text : Lis
       ]
 
   held-is : (k : ℕ) → k < length types
-      → (if get_or (map is_mark explicit) k false then holder (λ p. has_direction (case_by partners decision_at unpaired_at (map is_mark explicit) p)) (map is_mark explicit) k else None)
+      → (if get_or (map is_nonspacing_mark explicit) k false then holder (λ p. has_direction (case_by partners decision_at unpaired_at (map is_nonspacing_mark explicit) p)) (map is_nonspacing_mark explicit) k else None)
       ≡ set_by look embedding sos text explicit types k
   held-is k within =
-      let marks = map is_mark explicit in
-      let size : length marks ≡ length types = length-map explicit is_mark ∙ marked in
+      let marks = map is_nonspacing_mark explicit in
+      let size : length marks ≡ length types = length-map explicit is_nonspacing_mark ∙ marked in
       ap (λ o. if get_or marks k false then o else None) (holder-same (λ p. has_direction (case_by partners decision_at unpaired_at marks p))
       (λ p. has_direction (case_at look embedding sos text explicit types p)) marks k (λ p below. ap has_direction (case-is p (omega arith))))
       ∙ sym (holder-is (λ p. has_direction (case_at look embedding sos text explicit types p)) marks k (omega arith))
@@ -228,9 +228,9 @@ module _ (look : ℕ → Option Bracket) (embedding sos : BidiClass) (text : Lis
     inside = (decision_by (is_left embedding) sos (types_for look embedding sos text explicit types (min k j)) (min k j) (Some (max k j))).inside;
   }
 
-  step-is : (k : ℕ) → k < length types → step_by partners decision_at unpaired_at (map is_mark explicit) k ≡ bracket_step look embedding sos text explicit types k
+  step-is : (k : ℕ) → k < length types → step_by partners decision_at unpaired_at (map is_nonspacing_mark explicit) k ≡ bracket_step look embedding sos text explicit types k
   step-is k within =
-      let marks = map is_mark explicit in
+      let marks = map is_nonspacing_mark explicit in
       let held = holder (λ p. has_direction (case_by partners decision_at unpaired_at marks p)) marks k in
       let p = get_or partners k 0 in
       let one : BracketStep = record { case = (decision_at (min k p)).case; partner = Some p; inside = (decision_at (min k p)).inside } in
@@ -248,9 +248,9 @@ module _ (look : ℕ → Option Bracket) (embedding sos : BidiClass) (text : Lis
             ∙ sym (ap (step_with look embedding sos text explicit types k) w.1)
       ]
 
-  pub steps-are : map (step_by partners decision_at unpaired_at (map is_mark explicit)) (range_with_len 0 (length types)) ≡ bracket_steps look embedding sos text explicit types
+  pub steps-are : map (step_by partners decision_at unpaired_at (map is_nonspacing_mark explicit)) (range_with_len 0 (length types)) ≡ bracket_steps look embedding sos text explicit types
   steps-are =
-      let f = step_by partners decision_at unpaired_at (map is_mark explicit) in
+      let f = step_by partners decision_at unpaired_at (map is_nonspacing_mark explicit) in
       let none : BracketStep = record { case = None; partner = None; inside = None } in
       fill_by_all (bracket_step look embedding sos text explicit types) (map f (range_with_len 0 (length types))) (length types) none
       (length-map-range_with_len f 0 (length types))

@@ -68,8 +68,8 @@ look_for brackets = look_by (bound brackets)
 abbrev pub text_for : List BracketType → List ℕ
 text_for brackets = map (number_by (bound brackets)) brackets
 
-pub told : (brackets : List BracketType) → brackets ≡ bracket_types (look_for brackets) (text_for brackets)
-told brackets = sym (all-are (bound brackets) brackets (omega arith))
+pub looked_up : (brackets : List BracketType) → brackets ≡ bracket_types (look_for brackets) (text_for brackets)
+looked_up brackets = sym (all-are (bound brackets) brackets (omega arith))
 
 -- the bracket types of a paragraph are the bracket types of some text
 pub some_text : (b : Brackets) (n : ℕ) → AreFor b n → (look : ℕ → Option Bracket) × (text : List ℕ) × AreBracketsOf b n look text
@@ -80,7 +80,7 @@ some_text b n size =
         text_for b.types.now,
         record {
           size = length-map b.types.now (number_by (bound b.types.now)) ∙ size any;
-          types = λ _. told b.types.now;
+          types = λ _. looked_up b.types.now;
           none = λ e. absurd (both_ways b.has_any e any);
         },
       )

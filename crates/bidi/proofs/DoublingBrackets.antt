@@ -7,7 +7,7 @@ use Rattle.std.proofs.lemmas.List.FromFn.{length-map-range_with_len}
 use Rattle.ucd.specs.declared.bidi_class.BidiClass.{BidiClass}
 use Rattle.ucd.specs.declared.bidi_class.BidiClass.TheVariants.{ON}
 use Rattle.ucd.specs.declared.bracket.Bracket.{Bracket}
-use Rattle.ucd.specs.Classes.{class_at, is_mark}
+use Rattle.ucd.specs.Classes.{class_at, is_nonspacing_mark}
 use Rattle.bidi.specs.Brackets.{brackets, closer_of, context, is_direction, is_set_with, is_toward, pair_direction, pair_step, pairs_of, set_pair, set_with, stands}
 use Rattle.bidi.specs.Doubling.{double, can_be_doubled}
 use Rattle.bidi.specs.Levels.{sequence_levels}
@@ -182,12 +182,12 @@ pub brackets-double : (look : ℕ → Option Bracket) (embedding sos : BidiClass
 brackets-double look embedding sos characters explicit types k none within =
     let pairs = pairs_of look characters types in
     let new_pairs = pairs_of look (double k characters) (double k types) in
-    let marks = map is_mark explicit in
+    let marks = map is_nonspacing_mark explicit in
     let n = length types in
     let apart = apart-pairs look characters types k none in
     let agrees = pairs-double look characters types k none within in
-    ap (λ m. fold (λ current a. pair_step embedding sos (map is_mark (double k explicit)) current a (closer_of new_pairs a)) (double k types) (range_with_len 0 m)) (length-double k types within)
-    ∙ ap (λ xs. fold (λ current a. pair_step embedding sos xs current a (closer_of new_pairs a)) (double k types) (range_with_len 0 (suc n))) (map-double is_mark k explicit)
+    ap (λ m. fold (λ current a. pair_step embedding sos (map is_nonspacing_mark (double k explicit)) current a (closer_of new_pairs a)) (double k types) (range_with_len 0 m)) (length-double k types within)
+    ∙ ap (λ xs. fold (λ current a. pair_step embedding sos xs current a (closer_of new_pairs a)) (double k types) (range_with_len 0 (suc n))) (map-double is_nonspacing_mark k explicit)
     ∙ ap (λ ps. fold (λ current a. pair_step embedding sos (double k marks) current a (closer_of ps a)) (double k types) (range_with_len 0 (suc n))) agrees
     ∙ steps-double embedding sos marks k (closer_of pairs) (closer_of (map (shift_pair k) pairs)) (closer-double k pairs) (apart-closer k pairs apart) (apart-none k pairs apart)
     (closer-second k pairs) n 0 types (omega arith) (omega (arith, within)) within

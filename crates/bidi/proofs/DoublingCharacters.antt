@@ -5,13 +5,13 @@ use Rattle.std.proofs.lemmas.Bool.{and_parts, cases_Bool, cond-true, cond-false}
 use Rattle.std.proofs.lemmas.List.Sums.{sum_by-cons}
 use Rattle.ucd.specs.declared.bidi_class.BidiClass.{BidiClass}
 use Rattle.ucd.specs.declared.bracket.Bracket.{Bracket}
-use Rattle.ucd.specs.Classes.{class_at, is_mark}
+use Rattle.ucd.specs.Classes.{class_at, is_nonspacing_mark}
 use Rattle.ucd.specs.Least.{least}
 use Rattle.bidi.specs.Brackets.{Pair, closer_of, fits, greatest, is_closer, is_closing, is_full, is_live, is_opener, is_opening, is_other, is_pair_of, paired_with, pairs_before, pairs_of, resolve_pairs}
 use Rattle.bidi.specs.Explicit.{directed, level_at, type_at}
 use Rattle.bidi.specs.Levels.{levels_in, paragraph_levels, put, put_back, sequence_levels}
 use Rattle.bidi.specs.Neutral.{implicit_level, neutral}
-use Rattle.bidi.specs.Sequences.{direction, eos, first_of, sequences, sos, stayed}
+use Rattle.bidi.specs.Sequences.{direction, eos, first_of, sequences, sos, retained}
 use Rattle.bidi.specs.Weak.{weak}
 
 -- ---- tests that agree
@@ -104,7 +104,7 @@ module _ (look : ℕ → Option Bracket) where
   sequence-alike : (text other : List ℕ) → AreAlike text other → (level : ℕ) (sos eos : BidiClass) (types : List BidiClass)
       → sequence_levels look level sos eos text types ≡ sequence_levels look level sos eos other types
   sequence-alike text other alike level sos eos types =
-      ap (λ ps. map (implicit_level level) (neutral (direction level) sos eos (resolve_pairs (direction level) sos (map is_mark types) (closer_of ps) (weak sos types))))
+      ap (λ ps. map (implicit_level level) (neutral (direction level) sos eos (resolve_pairs (direction level) sos (map is_nonspacing_mark types) (closer_of ps) (weak sos types))))
       (pairs-alike text other alike (weak sos types))
 
   put-alike : (base : ℕ) (text other : List ℕ) → AreAlike text other → (classes : List BidiClass) (levels : List ℕ) (types : List BidiClass) (parts : List (List ℕ)) (done : List ℕ)
@@ -119,7 +119,7 @@ module _ (look : ℕ → Option Bracket) where
   pub paragraph-alike : (text other : List ℕ) → AreAlike text other → (classes : List BidiClass) (base : ℕ) → paragraph_levels look text classes base ≡ paragraph_levels look other classes base
   paragraph-alike text other alike classes base =
       let acting = directed classes in
-      let places = stayed acting in
+      let places = retained acting in
       let own = map (class_at acting) places in
       let levels = map (level_at base acting) places in
       ap (put_back base acting) (put-alike base (map (slice_index text) places) (map (slice_index other) places) (alike-part text other alike places) own levels

@@ -11,30 +11,30 @@ use Rattle.ucd.specs.Classes.{class_at, is_removed}
 use Rattle.bidi.specs.Doubling.{double, can_be_doubled}
 use Rattle.bidi.specs.Explicit.{directed, directed_at, level_at, type_at}
 use Rattle.bidi.specs.Levels.{levels_by, levels_in, paragraph_levels, put, put_back, resolved, sequence_levels}
-use Rattle.bidi.specs.Sequences.{eos, first_of, sequences, sos, stayed}
+use Rattle.bidi.specs.Sequences.{eos, first_of, sequences, sos, retained}
 use Rattle.bidi.proofs.DoublingBrackets.{sequence-double}
 use Rattle.bidi.proofs.DoublingExplicit.{directed-here, kept-range, kept_to, level_at-double, put_back-double, repeat-inner, repeat-kept, repeat-opens, stay-at, stay-double, type-repeats, type_at-double}
 use Rattle.bidi.proofs.DoublingIsolates.{IsInner, directed-double}
 use Rattle.bidi.proofs.DoublingLists.{collapse, collapse-next, collapse-shift, get_or-double, length-double, shift, shift-low}
 use Rattle.bidi.proofs.DoublingSequences.{eos-double, first-double, sequences-double, sos-double, widen, widen-other, widen-same}
 
--- the list in which each item is repeated if its mark is set
+-- the list in which each item is repeated if its flag is set
 abbrev pub stutter : {T : Type 0} → List Bool → List T → List T
 stutter [] items = items
-stutter (mark ∷ marks) [] = []
-stutter (mark ∷ marks) (item ∷ items) = item ∷ (if mark then item ∷ stutter marks items else stutter marks items)
+stutter (flag ∷ flags) [] = []
+stutter (flag ∷ flags) (item ∷ items) = item ∷ (if flag then item ∷ stutter flags items else stutter flags items)
 
-abbrev pub marks_of : ℕ → List ℕ → List Bool
-marks_of k places = map (λ i. k == i) places
+abbrev pub flags_of : ℕ → List ℕ → List Bool
+flags_of k places = map (λ i. k == i) places
 
--- the given marks after n marks that are not set
+-- the given flags after n flags that are not set
 abbrev pad : ℕ → List Bool → List Bool
-pad zero marks = marks
-pad (suc n) marks = false ∷ pad n marks
+pad zero flags = flags
+pad (suc n) flags = false ∷ pad n flags
 
-pad-more : (n : ℕ) (marks : List Bool) → pad n (false ∷ marks) ≡ pad (suc n) marks
-pad-more zero marks = refl
-pad-more (suc n) marks = ap (λ xs. false ∷ xs) (pad-more n marks)
+pad-more : (n : ℕ) (flags : List Bool) → pad n (false ∷ flags) ≡ pad (suc n) flags
+pad-more zero flags = refl
+pad-more (suc n) flags = ap (λ xs. false ∷ xs) (pad-more n flags)
 
 module _ {T : Type 0} where
   stutter-none : (n : ℕ) (xs : List T) → stutter (pad n []) xs ≡ xs
@@ -42,62 +42,62 @@ module _ {T : Type 0} where
   stutter-none (suc n) [] = refl
   stutter-none (suc n) (x ∷ xs) = ap (λ rest. x ∷ rest) (stutter-none n xs)
 
-  stutter-more : (n : ℕ) (marks : List Bool) (xs : List T) → stutter (pad n (true ∷ marks)) xs ≡ double n (stutter (pad (suc n) marks) xs)
-  stutter-more zero marks [] = refl
-  stutter-more (suc n) marks [] = refl
-  stutter-more zero marks (x ∷ xs) = refl
-  stutter-more (suc n) marks (x ∷ xs) = ap (λ rest. x ∷ rest) (stutter-more n marks xs)
+  stutter-more : (n : ℕ) (flags : List Bool) (xs : List T) → stutter (pad n (true ∷ flags)) xs ≡ double n (stutter (pad (suc n) flags) xs)
+  stutter-more zero flags [] = refl
+  stutter-more (suc n) flags [] = refl
+  stutter-more zero flags (x ∷ xs) = refl
+  stutter-more (suc n) flags (x ∷ xs) = ap (λ rest. x ∷ rest) (stutter-more n flags xs)
 
-  stutter-at : (n : ℕ) (marks : List Bool) (xs : List T) (d : T) → get_or (stutter (pad (suc n) marks) xs) n d ≡ get_or xs n d
-  stutter-at n marks [] d = refl
-  stutter-at zero marks (x ∷ xs) d = refl
-  stutter-at (suc n) marks (x ∷ xs) d = stutter-at n marks xs d
+  stutter-at : (n : ℕ) (flags : List Bool) (xs : List T) (d : T) → get_or (stutter (pad (suc n) flags) xs) n d ≡ get_or xs n d
+  stutter-at n flags [] d = refl
+  stutter-at zero flags (x ∷ xs) d = refl
+  stutter-at (suc n) flags (x ∷ xs) d = stutter-at n flags xs d
 
-  stutter-long : (n : ℕ) (marks : List Bool) (xs : List T) → n < length xs → n < length (stutter (pad (suc n) marks) xs)
-  stutter-long n marks [] within = absurd (omega (arith, within))
-  stutter-long zero marks (x ∷ xs) within = omega arith
-  stutter-long (suc n) marks (x ∷ xs) within = let more = stutter-long n marks xs (omega (arith, within)) in omega (arith, more)
+  stutter-long : (n : ℕ) (flags : List Bool) (xs : List T) → n < length xs → n < length (stutter (pad (suc n) flags) xs)
+  stutter-long n flags [] within = absurd (omega (arith, within))
+  stutter-long zero flags (x ∷ xs) within = omega arith
+  stutter-long (suc n) flags (x ∷ xs) within = let more = stutter-long n flags xs (omega (arith, within)) in omega (arith, more)
 
 -- ---- the levels of a sequence with repeated characters
 module _ (look : ℕ → Option Bracket) (level : ℕ) (sos eos : BidiClass) (characters : List ℕ) (types : List BidiClass) where
-  -- the characters whose marks are set may be repeated
+  -- the characters whose flags are set may be repeated
   AreCalm : ℕ → List Bool → Type 0
-  AreCalm n marks = (i : ℕ) → get_or marks i false ≡ true → (look (slice_index characters (n + i)) ≡ None) × (can_be_doubled (class_at types (n + i)) ≡ true) × (n + i < length types)
+  AreCalm n flags = (i : ℕ) → get_or flags i false ≡ true → (look (slice_index characters (n + i)) ≡ None) × (can_be_doubled (class_at types (n + i)) ≡ true) × (n + i < length types)
 
   abbrev Repeats : List Bool → Type 0
-  Repeats marks = sequence_levels look level sos eos (stutter marks characters) (stutter marks types) ≡ stutter marks (sequence_levels look level sos eos characters types)
+  Repeats flags = sequence_levels look level sos eos (stutter flags characters) (stutter flags types) ≡ stutter flags (sequence_levels look level sos eos characters types)
 
-  calm-next : (n : ℕ) (mark : Bool) (marks : List Bool) → AreCalm n (mark ∷ marks) → AreCalm (suc n) marks
+  calm-next : (n : ℕ) (flag : Bool) (flags : List Bool) → AreCalm n (flag ∷ flags) → AreCalm (suc n) flags
   unfolding AreCalm
-  calm-next n mark marks calm i set =
+  calm-next n flag flags calm i set =
       let e : n + suc i ≡ suc n + i = omega arith in
       subst (λ j. (look (slice_index characters j) ≡ None) × (can_be_doubled (class_at types j) ≡ true) × (j < length types)) e (calm (suc i) set)
 
-  stutter-levels : (marks : List Bool) (n : ℕ) → AreCalm n marks → Repeats (pad n marks)
+  stutter-levels : (flags : List Bool) (n : ℕ) → AreCalm n flags → Repeats (pad n flags)
   unfolding AreCalm
   stutter-levels [] n calm =
       let levels = sequence_levels look level sos eos in
       ap (λ xs. levels xs (stutter (pad n []) types)) (stutter-none n characters) ∙ ap (levels characters) (stutter-none n types)
       ∙ sym (stutter-none n (levels characters types))
-  stutter-levels (false ∷ marks) n calm = subst Repeats (sym (pad-more n marks)) (stutter-levels marks (suc n) (calm-next n false marks calm))
-  stutter-levels (true ∷ marks) n calm =
+  stutter-levels (false ∷ flags) n calm = subst Repeats (sym (pad-more n flags)) (stutter-levels flags (suc n) (calm-next n false flags calm))
+  stutter-levels (true ∷ flags) n calm =
       let levels = sequence_levels look level sos eos in
-      let more = pad (suc n) marks in
+      let more = pad (suc n) flags in
       let e : n + 0 ≡ n = omega arith in
       let here = subst (λ j. (look (slice_index characters j) ≡ None) × (can_be_doubled (class_at types j) ≡ true) × (j < length types)) e (calm 0 refl) in
-      ap (λ xs. levels xs (stutter (pad n (true ∷ marks)) types)) (stutter-more n marks characters)
-      ∙ ap (levels (double n (stutter more characters))) (stutter-more n marks types)
+      ap (λ xs. levels xs (stutter (pad n (true ∷ flags)) types)) (stutter-more n flags characters)
+      ∙ ap (levels (double n (stutter more characters))) (stutter-more n flags types)
       ∙ sequence-double look level sos eos (stutter more characters) (stutter more types) n
-      (ap look (stutter-at n marks characters 0) ∙ here.0) (ap can_be_doubled (stutter-at n marks types ON) ∙ here.1) (stutter-long n marks types here.2)
-      ∙ ap (double n) (stutter-levels marks (suc n) (calm-next n true marks calm))
-      ∙ sym (stutter-more n marks (levels characters types))
+      (ap look (stutter-at n flags characters 0) ∙ here.0) (ap can_be_doubled (stutter-at n flags types ON) ∙ here.1) (stutter-long n flags types here.2)
+      ∙ ap (double n) (stutter-levels flags (suc n) (calm-next n true flags calm))
+      ∙ sym (stutter-more n flags (levels characters types))
 
 -- ---- the items at the new indices
 if-map : {T : Type 0} (g : ℕ → T) (b : Bool) (i : ℕ) (xs : List ℕ) → map g (if b then i ∷ xs else xs) ≡ (if b then g i ∷ map g xs else map g xs)
 if-map g true i xs = refl
 if-map g false i xs = refl
 
-map-widen : {T : Type 0} (k : ℕ) (f g : ℕ → T) → ((j : ℕ) → g j ≡ f (collapse k j)) → (places : List ℕ) → map g (widen k places) ≡ stutter (marks_of k places) (map f places)
+map-widen : {T : Type 0} (k : ℕ) (f g : ℕ → T) → ((j : ℕ) → g j ≡ f (collapse k j)) → (places : List ℕ) → map g (widen k places) ≡ stutter (flags_of k places) (map f places)
 map-widen k f g same [] = refl
 map-widen k f g same (a ∷ places) =
     ap (λ v. v ∷ map g (if k == a then suc k ∷ widen k places else widen k places)) (same (shift k a) ∙ ap f (collapse-shift k a))
@@ -105,15 +105,15 @@ map-widen k f g same (a ∷ places) =
     if-map g (k == a) (suc k) (widen k places)
     ∙ ap (λ xs. if k == a then g (suc k) ∷ xs else xs) (map-widen k f g same places)
     ∙ elim (cases_eq k a) [
-      | inl e ↦ ap (λ v. if k == a then v ∷ stutter (marks_of k places) (map f places) else stutter (marks_of k places) (map f places)) (same (suc k) ∙ ap f (collapse-next k ∙ e))
-      | inr ne ↦ cond-false (k == a) (g (suc k) ∷ stutter (marks_of k places) (map f places)) (stutter (marks_of k places) (map f places)) (ne_eqb k a ne)
-          ∙ sym (cond-false (k == a) (f a ∷ stutter (marks_of k places) (map f places)) (stutter (marks_of k places) (map f places)) (ne_eqb k a ne))
+      | inl e ↦ ap (λ v. if k == a then v ∷ stutter (flags_of k places) (map f places) else stutter (flags_of k places) (map f places)) (same (suc k) ∙ ap f (collapse-next k ∙ e))
+      | inr ne ↦ cond-false (k == a) (g (suc k) ∷ stutter (flags_of k places) (map f places)) (stutter (flags_of k places) (map f places)) (ne_eqb k a ne)
+          ∙ sym (cond-false (k == a) (f a ∷ stutter (flags_of k places) (map f places)) (stutter (flags_of k places) (map f places)) (ne_eqb k a ne))
     ])
 
-marked-at : (k : ℕ) (places : List ℕ) (i : ℕ) → get_or (marks_of k places) i false ≡ true → (i < length places) × (get_or places i 0 ≡ k)
-marked-at k [] i set = absurd (cc)
-marked-at k (a ∷ places) zero set = (omega arith, sym (eqb-true k a set))
-marked-at k (a ∷ places) (suc i) set = let rest = marked-at k places i set in (omega (arith, rest.0), rest.1)
+flagged-at : (k : ℕ) (places : List ℕ) (i : ℕ) → get_or (flags_of k places) i false ≡ true → (i < length places) × (get_or places i 0 ≡ k)
+flagged-at k [] i set = absurd (cc)
+flagged-at k (a ∷ places) zero set = (omega arith, sym (eqb-true k a set))
+flagged-at k (a ∷ places) (suc i) set = let rest = flagged-at k places i set in (omega (arith, rest.0), rest.1)
 
 -- ---- writing the levels of a sequence
 set-other : (k a v : ℕ) (xs : List ℕ) → k ≢ a → set (double k xs) (shift k a) v ≡ double k (set xs a v)
@@ -128,11 +128,11 @@ set-twice k v [] = refl
 set-twice zero v (x ∷ xs) = refl
 set-twice (suc k) v (x ∷ xs) = ap (λ rest. x ∷ rest) (set-twice k v xs)
 
-put-double : (k : ℕ) (places values done : List ℕ) → put (double k done) (widen k places) (stutter (marks_of k places) values) ≡ double k (put done places values)
+put-double : (k : ℕ) (places values done : List ℕ) → put (double k done) (widen k places) (stutter (flags_of k places) values) ≡ double k (put done places values)
 put-double k [] values done = refl
 put-double k (a ∷ places) [] done = refl
 put-double k (a ∷ places) (v ∷ values) done =
-    let rest = stutter (marks_of k places) values in
+    let rest = stutter (flags_of k places) values in
     elim (cases_eq k a) [
       | inl e ↦
           let low : shift k a ≡ k = ap (shift k) (sym e) ∙ shift-low k k (omega arith) in
@@ -158,18 +158,18 @@ module _ (look : ℕ → Option Bracket) (base : ℕ) (characters : List ℕ) (c
   abbrev new_levels : List ℕ → List ℕ
   new_levels = levels_in look base (double k characters) (double k classes) (double k levels) (double k types)
 
-  some-double : (a : ℕ) (run : List ℕ) → new_levels (widen k (a ∷ run)) ≡ stutter (marks_of k (a ∷ run)) (old_levels (a ∷ run))
+  some-double : (a : ℕ) (run : List ℕ) → new_levels (widen k (a ∷ run)) ≡ stutter (flags_of k (a ∷ run)) (old_levels (a ∷ run))
   unfolding AreCalm
   some-double a run =
       let s = a ∷ run in
       let w = widen k s in
-      let marks = marks_of k s in
+      let flags = flags_of k s in
       let level : slice_index (double k levels) (first_of w) ≡ slice_index levels (first_of s) =
       ap (slice_index (double k levels)) (first-double k s) ∙ get_or-double k levels (shift k a) 0 ∙ ap (slice_index levels) (collapse-shift k a) in
       let own = map (slice_index characters) s in
       let kinds = map (class_at types) s in
-      let calm : AreCalm look (slice_index levels a) (sos base levels s) (eos base classes levels s) own kinds 0 marks =
-      λ i set. let at = marked-at k s i set in
+      let calm : AreCalm look (slice_index levels a) (sos base levels s) (eos base classes levels s) own kinds 0 flags =
+      λ i set. let at = flagged-at k s i set in
       let e : 0 + i ≡ i = omega arith in
       subst (λ j. (look (slice_index own j) ≡ None) × (can_be_doubled (class_at kinds j) ≡ true) × (j < length kinds)) (sym e) (
         ap look (get_or-map (slice_index characters) s i 0 0 at.0 ∙ ap (slice_index characters) at.1) ∙ none,
@@ -181,11 +181,11 @@ module _ (look : ℕ → Option Bracket) (base : ℕ) (characters : List ℕ) (c
       ∙ ap (λ t. sequence_levels look (slice_index levels a) (sos base levels s) t (map (slice_index (double k characters)) w) (map (class_at (double k types)) w)) (eos-double classes k inner in_classes base levels a run in_levels)
       ∙ ap (λ xs. sequence_levels look (slice_index levels a) (sos base levels s) (eos base classes levels s) xs (map (class_at (double k types)) w))
       (map-widen k (slice_index characters) (slice_index (double k characters)) (λ j. get_or-double k characters j 0) s)
-      ∙ ap (sequence_levels look (slice_index levels a) (sos base levels s) (eos base classes levels s) (stutter marks own))
+      ∙ ap (sequence_levels look (slice_index levels a) (sos base levels s) (eos base classes levels s) (stutter flags own))
       (map-widen k (class_at types) (class_at (double k types)) (λ j. get_or-double k types j ON) s)
-      ∙ stutter-levels look (slice_index levels a) (sos base levels s) (eos base classes levels s) own kinds marks 0 calm
+      ∙ stutter-levels look (slice_index levels a) (sos base levels s) (eos base classes levels s) own kinds flags 0 calm
 
-  levels_in-double : (s : List ℕ) → new_levels (widen k s) ≡ stutter (marks_of k s) (old_levels s)
+  levels_in-double : (s : List ℕ) → new_levels (widen k s) ≡ stutter (flags_of k s) (old_levels s)
   levels_in-double [] = refl
   levels_in-double (a ∷ run) = some-double a run
 
@@ -215,28 +215,28 @@ levels_by-double look text classes base k within is none =
     let start : 0 + k ≡ k = omega arith in
     let more : (λ (m : ℕ). filter q (range_with_len 0 m)) (length (double k classes)) ≡ filter q (range_with_len 0 (suc n)) = ap (λ m. filter q (range_with_len 0 m)) (length-double k classes within) in
     let opens = repeat-opens (class_at classes k) is in
-    let characters = map (slice_index text) (stayed classes) in
-    let own = map (class_at classes) (stayed classes) in
-    let levels = map (level_at base classes) (stayed classes) in
-    let types = map (type_at base classes) (stayed classes) in
-    let characters_are : map (slice_index (double k text)) (stayed (double k classes)) ≡ double place characters =
+    let characters = map (slice_index text) (retained classes) in
+    let own = map (class_at classes) (retained classes) in
+    let levels = map (level_at base classes) (retained classes) in
+    let types = map (type_at base classes) (retained classes) in
+    let characters_are : map (slice_index (double k text)) (retained (double k classes)) ≡ double place characters =
     ap (map (slice_index (double k text))) more ∙ stay-double k p q same here (slice_index text) (slice_index (double k text)) (λ j. get_or-double k text j 0) n 0 k start within in
-    let own_are : map (class_at (double k classes)) (stayed (double k classes)) ≡ double place own =
+    let own_are : map (class_at (double k classes)) (retained (double k classes)) ≡ double place own =
     ap (map (class_at (double k classes))) more ∙ stay-double k p q same here (class_at classes) (class_at (double k classes)) (λ j. get_or-double k classes j ON) n 0 k start within in
-    let levels_are : map (level_at base (double k classes)) (stayed (double k classes)) ≡ double place levels =
+    let levels_are : map (level_at base (double k classes)) (retained (double k classes)) ≡ double place levels =
     ap (map (level_at base (double k classes))) more ∙ stay-double k p q same here (level_at base classes) (level_at base (double k classes)) (level_at-double classes k opens base) n 0 k start within in
-    let types_are : map (type_at base (double k classes)) (stayed (double k classes)) ≡ double place types =
+    let types_are : map (type_at base (double k classes)) (retained (double k classes)) ≡ double place types =
     ap (map (type_at base (double k classes))) more ∙ stay-double k p q same here (type_at base classes) (type_at base (double k classes)) (type_at-double classes k opens base) n 0 k start within in
     let character = stay-at k p here (slice_index text) 0 n 0 k start within in
     let class = stay-at k p here (class_at classes) ON n 0 k start within in
     let level = stay-at k p here (level_at base classes) 0 n 0 k start within in
     let type = stay-at k p here (type_at base classes) ON n 0 k start within in
     let place_is : place ≡ kept_to k classes = kept-range p k 0 classes (omega (arith, within)) (λ i. let e : 0 + i ≡ i = omega arith in ap p e) in
-    ap (λ xs. put_back base (double k classes) (resolved look base xs (map (class_at (double k classes)) (stayed (double k classes)))
-    (map (level_at base (double k classes)) (stayed (double k classes))) (map (type_at base (double k classes)) (stayed (double k classes))))) characters_are
+    ap (λ xs. put_back base (double k classes) (resolved look base xs (map (class_at (double k classes)) (retained (double k classes)))
+    (map (level_at base (double k classes)) (retained (double k classes))) (map (type_at base (double k classes)) (retained (double k classes))))) characters_are
     ∙ ap (λ xs. put_back base (double k classes) (resolved look base (double place characters) xs
-    (map (level_at base (double k classes)) (stayed (double k classes))) (map (type_at base (double k classes)) (stayed (double k classes))))) own_are
-    ∙ ap (λ xs. put_back base (double k classes) (resolved look base (double place characters) (double place own) xs (map (type_at base (double k classes)) (stayed (double k classes))))) levels_are
+    (map (level_at base (double k classes)) (retained (double k classes))) (map (type_at base (double k classes)) (retained (double k classes))))) own_are
+    ∙ ap (λ xs. put_back base (double k classes) (resolved look base (double place characters) (double place own) xs (map (type_at base (double k classes)) (retained (double k classes))))) levels_are
     ∙ ap (λ xs. put_back base (double k classes) (resolved look base (double place characters) (double place own) (double place levels) xs)) types_are
     ∙ ap (put_back base (double k classes)) (resolved-double look base characters own levels types place
     (subst IsInner (sym class.1) (repeat-inner (class_at classes k) is)) (ap look character.1 ∙ none) (ap can_be_doubled type.1 ∙ type-repeats base classes k is) class.0 level.0)

@@ -2,7 +2,7 @@
 use Rattle.std.proofs.Common.{◌≡◌, ℕ, zero, suc, Bool, true, false, ◌||◌, not, if◌then◌else◌, List, [], ◌∷◌, length, map, refl, sym, ap, ◌∙◌}
 use Rattle.ucd.specs.declared.bidi_class.BidiClass.{BidiClass}
 use Rattle.ucd.specs.declared.bidi_class.BidiClass.TheVariants.{L, AL, EN, ES, ET, AN, CS, NSM, ON}
-use Rattle.ucd.specs.Classes.{class_at, is_mark, is_strong}
+use Rattle.ucd.specs.Classes.{class_at, is_nonspacing_mark, is_strong}
 use Rattle.bidi.specs.Doubling.{double, can_be_doubled}
 use Rattle.bidi.specs.Neighbours.{each_by, nearest}
 use Rattle.bidi.specs.Neutral.{between, is_neutral, neutral, neutral_at}
@@ -54,7 +54,7 @@ any type = true
 
 -- ---- W1
 w1-front : (sos : BidiClass) (k : ℕ) (before : List BidiClass) (type : BidiClass) (after : List BidiClass) → w1_at sos (double k before) type after ≡ w1_at sos before type after
-w1-front sos k before NSM after = ap mark_after (nearest-double (λ type. not (is_mark type)) sos k before)
+w1-front sos k before NSM after = ap mark_after (nearest-double (λ type. not (is_nonspacing_mark type)) sos k before)
 w1-front sos k before _ after = refl
 
 w1-back : (sos : BidiClass) (before : List BidiClass) (type : BidiClass) (after other : List BidiClass) → w1_at sos before type after ≡ w1_at sos before type other

@@ -11,12 +11,12 @@ use Rattle.ucd.specs.declared.bidi_class.BidiClass.{BidiClass}
 use Rattle.ucd.specs.declared.bidi_class.BidiClass.TheVariants.{ON, LRE, LRO, RLE, RLO, PDF, LRI, RLI, PDI}
 use Rattle.bidi.specs.declared.explicit.Openers.{Openers}
 use Rattle.bidi.specs.declared.explicit.Status.{Status}
-use Rattle.bidi.specs.declared.explicit.Stayed.{Stayed}
+use Rattle.bidi.specs.declared.explicit.Retained.{Retained}
 use Rattle.ucd.specs.Classes.{class_at, is_initiator, is_pdi, is_separator}
 use Rattle.bidi.specs.Explicit.{close_embedding, close_isolate, open_after, open_chain, inside_at, level_at, type_at}
 use Rattle.ucd.specs.Classes.{is_removed}
-use Rattle.bidi.specs.Sequences.{stayed}
-use Rattle.bidi.specs.Stayed.{HasAll, IsStayed}
+use Rattle.bidi.specs.Sequences.{retained}
+use Rattle.bidi.specs.Retained.{HasAll, IsRetained}
 use Rattle.bidi.specs.Openers.{innermost, Holds, Follows, AreOpeners}
 use Rattle.bidi.proofs.OpenersLemmas.{innermost-level, innermost-override, level-le}
 
@@ -35,29 +35,29 @@ numbers-more k =
     sym (map-id (range_with_len 0 (k + 1))) ∙ map-range_with_len_more (λ x. x) 0 k k (zero-add k) ∙ ap (λ (l : List ℕ). l ++ k ∷ []) (map-id (range_with_len 0 k))
 
 -- the indices below k of characters that X9 keeps
-abbrev pub stayed_to : List BidiClass → ℕ → List ℕ
-stayed_to classes k = filter (λ i. not (is_removed (class_at classes i))) (range_with_len 0 k)
+abbrev pub retained_to : List BidiClass → ℕ → List ℕ
+retained_to classes k = filter (λ i. not (is_removed (class_at classes i))) (range_with_len 0 k)
 
-stayed_to-more : (classes : List BidiClass) (k : ℕ) → stayed_to classes (k + 1) ≡ stayed_to classes k ++ cond (not (is_removed (class_at classes k))) (k ∷ []) []
-stayed_to-more classes k =
+retained_to-more : (classes : List BidiClass) (k : ℕ) → retained_to classes (k + 1) ≡ retained_to classes k ++ cond (not (is_removed (class_at classes k))) (k ∷ []) []
+retained_to-more classes k =
     ap (filter (λ i. not (is_removed (class_at classes i)))) (numbers-more k) ∙ filter-append (λ i. not (is_removed (class_at classes i))) (range_with_len 0 k) (k ∷ [])
 
-pub kept_more : (classes : List BidiClass) (k : ℕ) (kept : List ℕ) → kept ≡ stayed_to classes k → is_removed (class_at classes k) ≡ false → kept ++ k ∷ [] ≡ stayed_to classes (k + 1)
+pub kept_more : (classes : List BidiClass) (k : ℕ) (kept : List ℕ) → kept ≡ retained_to classes k → is_removed (class_at classes k) ≡ false → kept ++ k ∷ [] ≡ retained_to classes (k + 1)
 kept_more classes k kept are e =
-    ap (λ (l : List ℕ). l ++ k ∷ []) are ∙ sym (stayed_to-more classes k ∙ ap (λ (b : Bool). stayed_to classes k ++ cond (not b) (k ∷ []) []) e)
+    ap (λ (l : List ℕ). l ++ k ∷ []) are ∙ sym (retained_to-more classes k ∙ ap (λ (b : Bool). retained_to classes k ++ cond (not b) (k ∷ []) []) e)
 
-pub kept_same : (classes : List BidiClass) (k : ℕ) (kept : List ℕ) → kept ≡ stayed_to classes k → is_removed (class_at classes k) ≡ true → kept ≡ stayed_to classes (k + 1)
+pub kept_same : (classes : List BidiClass) (k : ℕ) (kept : List ℕ) → kept ≡ retained_to classes k → is_removed (class_at classes k) ≡ true → kept ≡ retained_to classes (k + 1)
 kept_same classes k kept are e =
-    are ∙ sym (stayed_to-more classes k ∙ ap (λ (b : Bool). stayed_to classes k ++ cond (not b) (k ∷ []) []) e ∙ append-nil (stayed_to classes k))
+    are ∙ sym (retained_to-more classes k ∙ ap (λ (b : Bool). retained_to classes k ++ cond (not b) (k ∷ []) []) e ∙ append-nil (retained_to classes k))
 
 module _ {X : Type 0} (f : ℕ → X) (classes : List BidiClass) (k : ℕ) where
-  pub stays : is_removed (class_at classes k) ≡ false → map f (stayed_to classes (k + 1)) ≡ map f (stayed_to classes k) ++ f k ∷ []
+  pub stays : is_removed (class_at classes k) ≡ false → map f (retained_to classes (k + 1)) ≡ map f (retained_to classes k) ++ f k ∷ []
   stays e =
-      ap (map f) (stayed_to-more classes k ∙ ap (λ (b : Bool). stayed_to classes k ++ cond (not b) (k ∷ []) []) e) ∙ map-append f (stayed_to classes k) (k ∷ [])
+      ap (map f) (retained_to-more classes k ∙ ap (λ (b : Bool). retained_to classes k ++ cond (not b) (k ∷ []) []) e) ∙ map-append f (retained_to classes k) (k ∷ [])
 
-  pub goes : is_removed (class_at classes k) ≡ true → map f (stayed_to classes (k + 1)) ≡ map f (stayed_to classes k)
+  pub goes : is_removed (class_at classes k) ≡ true → map f (retained_to classes (k + 1)) ≡ map f (retained_to classes k)
   goes e =
-      ap (map f) (stayed_to-more classes k ∙ ap (λ (b : Bool). stayed_to classes k ++ cond (not b) (k ∷ []) []) e ∙ append-nil (stayed_to classes k))
+      ap (map f) (retained_to-more classes k ∙ ap (λ (b : Bool). retained_to classes k ++ cond (not b) (k ∷ []) []) e ∙ append-nil (retained_to classes k))
 
 -- a character adds at most one opener to the chain
 close_embedding-length : (chain : List BidiClass) → length (close_embedding chain) ≤ length chain
@@ -138,13 +138,13 @@ module _ (classes : List BidiClass) (k : ℕ) (within : k < length classes) (cla
 
 -- The state of the pass after k characters: the openers that are open, and the data of the kept characters
 -- among the first k.
-pub record IsWalked (classes : List BidiClass) (base : ℕ) (k : ℕ) (openers : Openers) (left : Stayed) : Type 0 where
+pub record IsWalked (classes : List BidiClass) (base : ℕ) (k : ℕ) (openers : Openers) (left : Retained) : Type 0 where
   pub holds : Holds base openers (open_chain classes k)
-  pub classes_are : left.classes.items ≡ map (class_at classes) (stayed_to classes k)
-  pub levels_are : left.levels.items ≡ map (level_at base classes) (stayed_to classes k)
-  pub types_are : left.types.items ≡ map (type_at base classes) (stayed_to classes k)
+  pub classes_are : left.classes.items ≡ map (class_at classes) (retained_to classes k)
+  pub levels_are : left.levels.items ≡ map (level_at base classes) (retained_to classes k)
+  pub types_are : left.types.items ≡ map (type_at base classes) (retained_to classes k)
 
-module _ {classes : List BidiClass} {base k : ℕ} {openers : Openers} {left : Stayed} (walked : IsWalked classes base k openers left) (within : k < length classes)
+module _ {classes : List BidiClass} {base k : ℕ} {openers : Openers} {left : Retained} (walked : IsWalked classes base k openers left) (within : k < length classes)
     {class : BidiClass} (at : class ≡ class_at classes k) where
   pub IsWalked-reached : (reached : Openers) → Follows openers reached (λ chain. if is_pdi class then close_isolate chain else chain) → Holds base reached (chain_at classes k)
   IsWalked-reached reached follows = subst (Holds base reached) (chain_at-is classes k within class at) (follows base (open_chain classes k) walked.holds)
@@ -163,13 +163,13 @@ module _ {classes : List BidiClass} {base k : ℕ} {openers : Openers} {left : S
 
   -- for a character that X9 keeps, the pass updates the openers and appends the character's class, level and
   -- type
-  pub IsWalked-stayed : (reached passed : Openers) → Holds base reached (chain_at classes k) → Follows reached passed (λ chain. if is_pdi class then chain else open_after chain class)
+  pub IsWalked-retained : (reached passed : Openers) → Holds base reached (chain_at classes k) → Follows reached passed (λ chain. if is_pdi class then chain else open_after chain class)
       → is_removed class ≡ false → (status : Status) → status ≡ innermost base (chain_at classes k)
-      → (next : Stayed) → next.classes.items ≡ left.classes.items ++ class ∷ []
+      → (next : Retained) → next.classes.items ≡ left.classes.items ++ class ∷ []
       → next.levels.items ≡ left.levels.items ++ (if is_separator class then base else status.level) ∷ []
       → next.types.items ≡ left.types.items ++ (if is_separator class then class else unwrap_or status.overriding class) ∷ []
       → IsWalked classes base (k + 1) passed next
-  IsWalked-stayed reached passed holds follows kept status inner next one_class one_level one_type =
+  IsWalked-retained reached passed holds follows kept status inner next one_class one_level one_type =
       let here : is_removed (class_at classes k) ≡ false = sym (ap is_removed at) ∙ kept in
       record {
         holds = subst (Holds base passed) (chain_at-next classes k within class at) (follows base (chain_at classes k) holds);
@@ -197,9 +197,9 @@ module _ {classes : List BidiClass} {base k : ℕ} {openers : Openers} {left : S
   }
 
 -- the pass keeps a class, a level and a type for each kept character
-pub kept_all : (classes : List BidiClass) (base : ℕ) (left : Stayed) → base ≤ 1 → IsStayed classes base left → HasAll left
+pub kept_all : (classes : List BidiClass) (base : ℕ) (left : Retained) → base ≤ 1 → IsRetained classes base left → HasAll left
 kept_all classes base left low kept =
-    let places = stayed classes in
+    let places = retained classes in
     let size : length left.levels.items ≡ length places = ap length kept.levels_are ∙ length-map places (level_at base classes) in
     record {
       classes = ap length kept.classes_are ∙ length-map places (class_at classes) ∙ sym size;

@@ -10,14 +10,14 @@ use Rattle.ucd.specs.declared.bidi_class.BidiClass.{BidiClass}
 use Rattle.ucd.specs.declared.bidi_class.BidiClass.TheVariants.{L, R, AL, EN, ES, ET, AN, CS, NSM, B, S, WS, ON, LRE, LRO, RLE, RLO, LRI, RLI, FSI, PDI}
 use Rattle.ucd.specs.declared.bracket.Bracket.{Bracket}
 use Rattle.bidi.specs.Brackets.{brackets, closer_of, is_set_with, is_toward, pair_step, pairs_of, set_pair, set_with, stands, context}
-use Rattle.ucd.specs.Classes.{class_at, is_initiator, is_mark, is_removed, is_strong}
+use Rattle.ucd.specs.Classes.{class_at, is_initiator, is_nonspacing_mark, is_removed, is_strong}
 use Rattle.bidi.specs.Explicit.{directed, is_first_strong, level_at, open_after, type_at}
 use Rattle.bidi.specs.Levels.{levels_by, paragraph_levels, put_back, resolved, sequence_levels}
 use Rattle.bidi.specs.Neighbours.{nearest}
 use Rattle.bidi.specs.Neutral.{agree, side}
 use Rattle.bidi.specs.Plain.{is_flat, is_flat_rtl}
 use Rattle.bidi.specs.Rows.{levels_after}
-use Rattle.bidi.specs.Sequences.{stayed}
+use Rattle.bidi.specs.Sequences.{retained}
 use Rattle.bidi.specs.Waiting.{carry, digit_type, mark_type}
 use Rattle.bidi.specs.Weak.{is_left, is_number, mark_after, w3_type, w6_type, weak}
 use Rattle.bidi.proofs.BracketLemmas.{length-set_with}
@@ -129,7 +129,7 @@ mark-step left before NSM after k p a = mark-kept left before k
 mark-step true before _ after k p a = p
 mark-step false before _ after k p a = p
 
-mark-next : (left : Bool) (before type : BidiClass) → is_marked left before ≡ true → is_first left type ≡ true → is_marked left (if not (is_mark type) then type else before) ≡ true
+mark-next : (left : Bool) (before type : BidiClass) → is_marked left before ≡ true → is_first left type ≡ true → is_marked left (if not (is_nonspacing_mark type) then type else before) ≡ true
 mark-next left before NSM k p = k
 mark-next true before _ k p = p
 mark-next false before _ k p = p
@@ -244,13 +244,13 @@ weak-calm left types first =
     let sos = side left in
     let mark = λ (b type : BidiClass) (after : List BidiClass). mark_type b type in
     let digit = λ (s type : BidiClass) (after : List BidiClass). digit_type s type in
-    let unmarked = carry mark (λ type. not (is_mark type)) sos types in
+    let unmarked = carry mark (λ type. not (is_nonspacing_mark type)) sos types in
     let digits = carry digit is_strong sos unmarked in
     let read = map w3_type digits in
     let separated = carry separator_type any ON read in
     let terminated = carry terminator_type ends_row ON separated in
     let one : Passes (is_marked left) unmarked =
-    carry-passes mark (λ type. not (is_mark type)) (is_marked left) (is_first left) (is_marked left) (mark-step left) (mark-next left) sos types (side-marked left) first in
+    carry-passes mark (λ type. not (is_nonspacing_mark type)) (is_marked left) (is_first left) (is_marked left) (mark-step left) (mark-next left) sos types (side-marked left) first in
     let two : Passes (is_marked left) digits =
     carry-passes digit is_strong (is_seen left) (is_marked left) (is_marked left) (digit-step left) (seen-next left) sos unmarked (side-seen left) one in
     let three : Passes (is_turned left) read =
@@ -268,14 +268,14 @@ pub length-weak : (sos : BidiClass) (types : List BidiClass) → length (weak so
 length-weak sos types =
     let mark = λ (b type : BidiClass) (after : List BidiClass). mark_type b type in
     let digit = λ (s type : BidiClass) (after : List BidiClass). digit_type s type in
-    let unmarked = carry mark (λ type. not (is_mark type)) sos types in
+    let unmarked = carry mark (λ type. not (is_nonspacing_mark type)) sos types in
     let digits = carry digit is_strong sos unmarked in
     let read = map w3_type digits in
     let separated = carry separator_type any ON read in
     let terminated = carry terminator_type ends_row ON separated in
     ap length (weak-later sos types) ∙ length-carry left_type is_strong sos (map w6_type terminated) ∙ length-map terminated w6_type
     ∙ length-carry terminator_type ends_row ON separated ∙ length-carry separator_type any ON read ∙ length-map digits w3_type
-    ∙ length-carry digit is_strong sos unmarked ∙ length-carry mark (λ type. not (is_mark type)) sos types
+    ∙ length-carry digit is_strong sos unmarked ∙ length-carry mark (λ type. not (is_nonspacing_mark type)) sos types
 
 -- if all types have the paragraph's direction or are neutral, the same holds after N0
 neutral-calm : (left : Bool) → is_calm left ON ≡ true
@@ -388,13 +388,13 @@ sequence_levels-same : (left : Bool) (bracket : ℕ → Option Bracket) (charact
 sequence_levels-same true bracket characters types first =
     let paired = brackets bracket L L characters types (weak L types) in
     let now : IsCalm true (length types) paired =
-    fold-calm true (length types) (map is_mark types) (closer_of (pairs_of bracket characters (weak L types))) (range_with_len 0 (length (weak L types))) (weak L types)
+    fold-calm true (length types) (map is_nonspacing_mark types) (closer_of (pairs_of bracket characters (weak L types))) (range_with_len 0 (length (weak L types))) (weak L types)
     (record { calm = weak-calm true types first; size = length-weak L types }) in
     sym (levels_after-is 0 L L paired) ∙ calm_levels true 0 paired now.calm ∙ ap (same true) (zero-add (length paired) ∙ now.size)
 sequence_levels-same false bracket characters types first =
     let paired = brackets bracket R R characters types (weak R types) in
     let now : IsCalm false (length types) paired =
-    fold-calm false (length types) (map is_mark types) (closer_of (pairs_of bracket characters (weak R types))) (range_with_len 0 (length (weak R types))) (weak R types)
+    fold-calm false (length types) (map is_nonspacing_mark types) (closer_of (pairs_of bracket characters (weak R types))) (range_with_len 0 (length (weak R types))) (weak R types)
     (record { calm = weak-calm false types first; size = length-weak R types }) in
     sym (levels_after-is 1 R R paired) ∙ calm_levels false 0 paired now.calm ∙ ap (same false) (zero-add (length paired) ∙ now.size)
 
@@ -489,7 +489,7 @@ same_levels left bracket text classes flat =
     let closed = All-weaker (λ c. is_flat_in left c ≡ true) (λ c. open_after [] c ≡ []) (flat-closed left) classes flat in
     let directed-is : directed classes ≡ classes =
     directed-none classes (All-weaker (λ c. is_flat_in left c ≡ true) (λ c. is_first_strong c ≡ false) (flat-directed left) classes flat) in
-    let places = stayed classes in
+    let places = retained classes in
     let n = length places in
     let characters = map (slice_index text) places in
     let kept = map (class_at classes) places in

@@ -15,7 +15,7 @@ use Rattle.ucd.specs.Classes.{class_at}
 use Rattle.bidi.specs.Explicit.{directed, directed_at, level_at, type_at}
 use Rattle.bidi.specs.Levels.{levels_of, paragraph_levels, put_back, resolved}
 use Rattle.ucd.specs.Classes.{is_removed}
-use Rattle.bidi.specs.Sequences.{stayed}
+use Rattle.bidi.specs.Sequences.{retained}
 
 -- a strong level is 0 or 1
 strong_level-low : (class : BidiClass) → strong_level class ≤ 1
@@ -52,7 +52,7 @@ length-put_back before (class ∷ classes) (level ∷ levels) =
 pub length-paragraph_levels : (look : ℕ → Option Bracket) (text : List ℕ) (all : List BidiClass) (level : ℕ) → length (paragraph_levels look text all level) ≡ length all
 length-paragraph_levels look text all level =
     let classes = directed all in
-    let places = stayed classes in
+    let places = retained classes in
     length-put_back level classes (resolved look level (map (slice_index text) places)
     (map (class_at classes) places) (map (level_at level classes) places) (map (type_at level classes) places))
     ∙ length-directed all

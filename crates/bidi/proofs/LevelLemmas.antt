@@ -9,7 +9,7 @@ use Rattle.bidi.specs.Base.{match_of}
 use Rattle.ucd.specs.Classes.{class_at, is_initiator}
 use Rattle.bidi.specs.Isolates.{match_at}
 use Rattle.bidi.specs.Levels.{put, levels_in, resolved}
-use Rattle.bidi.specs.Runs.{IsRunEnd, runs_from, sequence_at, next_start, marked, joined_first}
+use Rattle.bidi.specs.Runs.{IsRunEnd, runs_from, sequence_at, next_start, flagged, joined_first}
 use Rattle.bidi.specs.Cuts.{paragraphs}
 use Rattle.bidi.specs.Sequences.{changes, runs, first_of, last_of, is_match, continues_in, joined, sequences_from}
 use Rattle.bidi.proofs.RunLemmas.{continues-match_at, next_start-within, runs_from-run, runs_from-end, first_of-range, last_of-range}
@@ -28,14 +28,14 @@ continued_at classes earlier j = list_any (λ run. is_initiator (class_at classe
 -- change the `size` of the result.
 module _ {D : Type 0} (add : D → List ℕ → D) (size : D → ℕ) (keeps : (done : D) (sequence : List ℕ) → size (add done sequence) ≡ size done)
     (none all : D) (classes : List BidiClass) (levels : List ℕ) where
-  -- The state of the pass at the run that begins at `start`. `flags` marks the start of each run in which an
+  -- The state of the pass at the run that begins at `start`. `flags` is set at the start of each run in which an
   -- earlier run continues. Adding the sequences that begin at `start` or later completes `done`.
   pub record Adds (start : ℕ) (flags : List Bool) (done : D) : Type 0 where
     pub earlier : List (List ℕ)
     pub edge : 0 < start → start < length levels → slice_index levels (start - 1) ≢ slice_index levels start
     pub sized : size done ≡ size none
-    pub marks : length flags ≡ length levels
-    pub told : (j : ℕ) → j < length levels → (0 < j → slice_index levels (j - 1) ≢ slice_index levels j) → get_or flags j false ≡ continued_at classes earlier j
+    pub flags_len : length flags ≡ length levels
+    pub flags_are : (j : ℕ) → j < length levels → (0 < j → slice_index levels (j - 1) ≢ slice_index levels j) → get_or flags j false ≡ continued_at classes earlier j
     pub whole : fold add done (sequences_from classes earlier (runs_from levels start)) ≡ all
 
   pub Adds-start : fold add none (sequences_from classes [] (runs levels)) ≡ all → (flags : List Bool) → length flags ≡ length levels
@@ -44,8 +44,8 @@ module _ {D : Type 0} (add : D → List ℕ → D) (size : D → ℕ) (keeps : (
     earlier = [];
     edge = λ h. absurd (omega arith);
     sized = refl;
-    marks = size;
-    told = λ j within start. clear j within;
+    flags_len = size;
+    flags_are = λ j within start. clear j within;
     whole = let size : length levels - 0 ≡ length levels = omega arith in
         ap (λ n. fold add none (sequences_from classes [] (paragraphs (changes levels) (range_with_len 0 n)))) size ∙ is;
   }
@@ -56,7 +56,7 @@ module _ {D : Type 0} (add : D → List ℕ → D) (size : D → ℕ) (keeps : (
       → next ≡ (if get_or flags start false then done else add done (sequence_at classes levels start)) → length after ≡ length levels
       → ((j : ℕ) → j < length levels → (0 < j → slice_index levels (j - 1) ≢ slice_index levels j) → get_or after j false ≡ ((match_at classes (end - 1) == j) || get_or flags j false))
       → Adds end after next
-  Adds-next sizes start end flags after done next run now written marks marked =
+  Adds-next sizes start end flags after done next run now written flags_len flagged =
       let above = run.above in
       let within = run.within in
       let first = range_with_len start (end - start) in
@@ -65,9 +65,9 @@ module _ {D : Type 0} (add : D → List ℕ → D) (size : D → ℕ) (keeps : (
       let later = runs_from levels end in
       let rest = sequences_from classes (first ∷ now.earlier) later in
       let test = list_any (λ before. continues_in classes before first) now.earlier in
-      let is_told : test ≡ get_or flags start false =
+      let is_flagged : test ≡ get_or flags start false =
       ap (λ j. list_any (λ before. is_initiator (class_at classes (last_of before)) && is_match (match_of classes (last_of before)) j) now.earlier) begins
-      ∙ sym (now.told start (omega arith) (λ some. now.edge some (omega arith))) in
+      ∙ sym (now.flags_are start (omega arith) (λ some. now.edge some (omega arith))) in
       let split : sequences_from classes now.earlier (runs_from levels start)
       ≡ (if test then rest else joined classes first later ∷ rest) =
       ap (sequences_from classes now.earlier) (runs_from-run levels start end run) in
@@ -80,18 +80,18 @@ module _ {D : Type 0} (add : D → List ℕ → D) (size : D → ℕ) (keeps : (
           | inr begun ↦ ap size (written ∙ cond-false (get_or flags start false) done (add done (sequence_at classes levels start)) begun)
               ∙ keeps done (sequence_at classes levels start) ∙ now.sized
         ];
-        marks = marks;
-        told = λ j inside edge. marked j inside edge
+        flags_len = flags_len;
+        flags_are = λ j inside edge. flagged j inside edge
             ∙ ap (λ b. b || get_or flags j false) (sym (ap (λ l. is_initiator (class_at classes l) && is_match (match_of classes l) j) ends ∙ continues-match_at classes (end - 1) j (omega arith)))
-            ∙ ap (λ b. (is_initiator (class_at classes (last_of first)) && is_match (match_of classes (last_of first)) j) || b) (now.told j inside edge);
+            ∙ ap (λ b. (is_initiator (class_at classes (last_of first)) && is_match (match_of classes (last_of first)) j) || b) (now.flags_are j inside edge);
         whole = elim (cases_Bool (get_or flags start false)) [
           | inl skipped ↦
               ap (λ xs. fold add xs rest) (written ∙ cond-true (get_or flags start false) done (add done (sequence_at classes levels start)) skipped)
-              ∙ ap (fold add done) (sym (split ∙ cond-true test rest (joined classes first later ∷ rest) (is_told ∙ skipped)))
+              ∙ ap (fold add done) (sym (split ∙ cond-true test rest (joined classes first later ∷ rest) (is_flagged ∙ skipped)))
               ∙ now.whole
           | inr begun ↦
               ap (λ xs. fold add xs rest) (written ∙ cond-false (get_or flags start false) done (add done (sequence_at classes levels start)) begun ∙ ap (add done) here)
-              ∙ ap (fold add done) (sym (split ∙ cond-false test rest (joined classes first later ∷ rest) (is_told ∙ begun)))
+              ∙ ap (fold add done) (sym (split ∙ cond-false test rest (joined classes first later ∷ rest) (is_flagged ∙ begun)))
               ∙ now.whole
         ];
       }
@@ -126,9 +126,9 @@ module _ (bracket_of : ℕ → Option Bracket) (base : ℕ) (characters : List �
 
 -- The pass flags the run in which a run continues. If the run is the last of its sequence, the pass sets no
 -- flag.
-marked_some : (levels : List ℕ) (m next j : ℕ) (flags : List Bool) → next_start levels m ≡ Some next → length flags ≡ length levels → j < length levels
+flagged_some : (levels : List ℕ) (m next j : ℕ) (flags : List Bool) → next_start levels m ≡ Some next → length flags ≡ length levels → j < length levels
     → get_or (set flags next true) j false ≡ ((m == j) || get_or flags j false)
-marked_some levels m next j flags e size within =
+flagged_some levels m next j flags e size within =
     let at = next_start-within levels m next e in
     elim (cases_eq j next) [
       | inl same ↦
@@ -137,9 +137,9 @@ marked_some levels m next j flags e size within =
       | inr ne ↦ rw get_or-set_other (sym (ap (λ b. b || get_or flags j false) (ne_eqb m j (λ same. ne (sym same ∙ sym at.0)))))
     ]
 
-marked_none : (levels : List ℕ) (m j : ℕ) (flags : List Bool) → next_start levels m ≡ None → 0 < m → j < length levels → (0 < j → slice_index levels (j - 1) ≢ slice_index levels j)
+flagged_none : (levels : List ℕ) (m j : ℕ) (flags : List Bool) → next_start levels m ≡ None → 0 < m → j < length levels → (0 < j → slice_index levels (j - 1) ≢ slice_index levels j)
     → get_or flags j false ≡ ((m == j) || get_or flags j false)
-marked_none levels m j flags e some within edge =
+flagged_none levels m j flags e some within edge =
     elim (cases_eq m j) [
       | inr ne ↦ sym (ap (λ b. b || get_or flags j false) (ne_eqb m j ne))
       | inl same ↦
@@ -153,13 +153,13 @@ marked_none levels m j flags e some within edge =
           absurd (cc)
     ]
 
-pub marked-is : (levels : List ℕ) (m j : ℕ) (flags : List Bool) (next : Option ℕ) → next ≡ next_start levels m
+pub flagged-is : (levels : List ℕ) (m j : ℕ) (flags : List Bool) (next : Option ℕ) → next ≡ next_start levels m
     → length flags ≡ length levels → 0 < m → j < length levels
     → (0 < j → slice_index levels (j - 1) ≢ slice_index levels j)
-    → get_or (marked flags next) j false ≡ ((m == j) || get_or flags j false)
-marked-is levels m j flags None e size some within edge = marked_none levels m j flags (sym e) some within edge
-marked-is levels m j flags (Some next) e size some within edge = marked_some levels m next j flags (sym e) size within
+    → get_or (flagged flags next) j false ≡ ((m == j) || get_or flags j false)
+flagged-is levels m j flags None e size some within edge = flagged_none levels m j flags (sym e) some within edge
+flagged-is levels m j flags (Some next) e size some within edge = flagged_some levels m next j flags (sym e) size within
 
-pub length-marked : (flags : List Bool) (next : Option ℕ) → length (marked flags next) ≡ length flags
-length-marked flags None = refl
-length-marked flags (Some next) = length-set flags next true
+pub length-flagged : (flags : List Bool) (next : Option ℕ) → length (flagged flags next) ≡ length flags
+length-flagged flags None = refl
+length-flagged flags (Some next) = length-set flags next true

@@ -35,8 +35,8 @@ mod NeutralTableLemmas
 mod NoBracketLemmas
 mod OpenerLemmas
 mod OpenersLemmas
+pub mod LookedUpLemmas
 pub mod PairLemmas
-pub mod PartLemmas
 mod PartnerLemmas
 mod PiecesLemmas
 mod PlainLemmas
@@ -45,8 +45,8 @@ mod ReuseLemmas
 mod RunLemmas
 mod SequenceStartLemmas
 mod SequenceStepLemmas
+pub mod PartLemmas
 pub mod TextCutLemmas
-pub mod ToldLemmas
 mod WaitingLemmas
 mod WeakLemmas
 mod WeakStateLemmas

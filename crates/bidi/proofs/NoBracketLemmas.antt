@@ -7,7 +7,7 @@ use Rattle.ucd.specs.declared.bracket.Bracket.{Bracket}
 use Rattle.bidi.specs.Brackets.{brackets, closer_of, fits, greatest, is_live, is_closer, is_closing, is_full, is_opener, is_opening, is_other, pair_step, paired_with, pairs_before, pairs_of, resolve_pairs}
 use Rattle.ucd.specs.Classes.{class_at}
 use Rattle.ucd.specs.Least.{least}
-use Rattle.ucd.specs.Classes.{is_mark}
+use Rattle.ucd.specs.Classes.{is_nonspacing_mark}
 use Rattle.bidi.proofs.LeastLemmas.{least_none}
 
 no_steps : (embedding sos : BidiClass) (marks : List Bool) (places : List ℕ) (types : List BidiClass)
@@ -42,5 +42,5 @@ module _ (bracket : ℕ → Option Bracket) (characters : List ℕ) (types : Lis
       (range_with_len 0 m))) (no_opener m (omega arith))) in
       let pairs : pairs_of bracket characters types ≡ [] =
       ap (λ o. pairs_before bracket characters types (unwrap_or o (length types))) full ∙ no_pairs (length types) (omega arith) in
-      ap (λ ps. resolve_pairs embedding sos (map is_mark explicit) (closer_of ps) types) pairs
-      ∙ no_steps embedding sos (map is_mark explicit) (range_with_len 0 (length types)) types
+      ap (λ ps. resolve_pairs embedding sos (map is_nonspacing_mark explicit) (closer_of ps) types) pairs
+      ∙ no_steps embedding sos (map is_nonspacing_mark explicit) (range_with_len 0 (length types)) types

@@ -16,7 +16,7 @@ use Rattle.bidi.specs.Levels.{levels_by, levels_in, paragraph_levels, put, put_b
 use Rattle.bidi.specs.Plain.{is_plain}
 use Rattle.bidi.specs.Runs.{IsRunEnd, runs_from}
 use Rattle.ucd.specs.Classes.{is_removed}
-use Rattle.bidi.specs.Sequences.{changes, direction, eos, first_of, last_of, level_before, level_after, sequences, sequences_from, sos, stayed}
+use Rattle.bidi.specs.Sequences.{changes, direction, eos, first_of, last_of, level_before, level_after, sequences, sequences_from, sos, retained}
 use Rattle.bidi.proofs.RunLemmas.{first_of-range, last_of-range, runs_from-end, runs_from-run}
 
 -- mapping each index to the item there yields the list itself
@@ -220,7 +220,7 @@ plain_levels bracket text classes base plain sizes whole =
     let closed = All-weaker (λ c. is_plain c ≡ true) (λ c. open_after [] c ≡ []) plain-closed classes plain in
     let stays = All-weaker (λ c. is_plain c ≡ true) (λ c. is_removed c ≡ false) plain-stays classes plain in
     let same : directed classes ≡ classes = directed-none classes (All-weaker (λ c. is_plain c ≡ true) (λ c. is_first_strong c ≡ false) plain-directed classes plain) in
-    let places : stayed classes ≡ range_with_len 0 n =
+    let places : retained classes ≡ range_with_len 0 n =
     filter-range (λ k. not (is_removed (class_at classes k))) 0 n (λ k below.
     not_from_false (is_removed (class_at classes k)) (All-get_or (λ c. is_removed c ≡ false) classes k ON (omega arith) stays)) in
     let characters : map (slice_index text) (range_with_len 0 n) ≡ text =

@@ -15,7 +15,7 @@ use Rattle.bidi.specs.Explicit.{directed, directed_at, span_of}
 use Rattle.bidi.specs.Isolates.{match_at, matches_of}
 use Rattle.ucd.specs.Least.{least}
 use Rattle.ucd.specs.Classes.{is_removed}
-use Rattle.bidi.specs.Sequences.{stayed}
+use Rattle.bidi.specs.Sequences.{retained}
 use Rattle.bidi.proofs.PlainLemmas.{range-read}
 
 map_pointwise : {X Y : Type 0} (f g : X → Y) → ((x : X) → f x ≡ g x) → (xs : List X) → map f xs ≡ map g xs
@@ -99,10 +99,10 @@ filter_all p (x ∷ xs) size =
     ]
 
 -- if the number of kept classes is the number of classes, X9 keeps all of them
-pub all_stay : (classes left : List BidiClass) → left ≡ map (class_at classes) (stayed classes) → length left ≡ length classes → left ≡ classes
+pub all_stay : (classes left : List BidiClass) → left ≡ map (class_at classes) (retained classes) → length left ≡ length classes → left ≡ classes
 all_stay classes left are size =
     let n : ℕ = length classes in
-    let places : length (stayed classes) ≡ length (range_with_len 0 n) =
-    sym (length-map (stayed classes) (class_at classes)) ∙ sym (ap length are) ∙ size ∙ sym (length-range_with_len 0 n) in
+    let places : length (retained classes) ≡ length (range_with_len 0 n) =
+    sym (length-map (retained classes) (class_at classes)) ∙ sym (ap length are) ∙ size ∙ sym (length-range_with_len 0 n) in
     are ∙ ap (map (class_at classes)) (filter_all (λ k. not (is_removed (class_at classes k))) (range_with_len 0 n) places)
     ∙ range-read (class_at classes) classes ON (λ k within. refl)

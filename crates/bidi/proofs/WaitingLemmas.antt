@@ -7,7 +7,7 @@ use Rattle.ucd.specs.declared.bidi_class.BidiClass.TheVariants.{L, R, AL, EN, ES
 use Rattle.bidi.specs.declared.weak_table.Row.{Row}
 use Rattle.bidi.specs.declared.weak_table.Row.TheVariants.{Nothing, European, Arabic, EuropeanTerminators, EuropeanSeparator, ArabicSeparator, Terminators}
 use Rattle.ucd.specs.Classes.{is_strong}
-use Rattle.ucd.specs.Classes.{is_mark}
+use Rattle.ucd.specs.Classes.{is_nonspacing_mark}
 use Rattle.bidi.specs.Weak.{is_left, mark_after, w3_type, weak}
 use Rattle.bidi.specs.WeakTable.{is_simple}
 use Rattle.bidi.specs.Waiting.{mark_type, digit_type, read_types, waits, lengthens, completes, written, row_after, start_after, types_after, AreTypesSoFar}
@@ -65,7 +65,7 @@ module _ (sos : BidiClass) (old current : List BidiClass) (before strong : BidiC
     (size : length filled ≡ length current) (after : drop at filled ≡ drop at current)
     (front : take at filled ≡ take start current ++ replicate (at - start) (if completes row type then value else ON)) where
   abbrev unmarked : BidiClass
-  unmarked = if not (is_mark (get_or current at d)) then get_or current at d else before
+  unmarked = if not (is_nonspacing_mark (get_or current at d)) then get_or current at d else before
 
   abbrev nearest_strong : BidiClass
   nearest_strong = if is_strong marked then marked else strong
@@ -229,7 +229,7 @@ types-end sos old current before strong row start at so_far past =
     ∙ so_far.whole ∙ weak-is sos old
 
 -- ---- a type that W1, W2 and W4 to W7 leave unchanged
-simple-mark : (class : BidiClass) → is_simple class ≡ true → is_mark class ≡ false
+simple-mark : (class : BidiClass) → is_simple class ≡ true → is_nonspacing_mark class ≡ false
 simple-mark NSM e = absurd (cc)
 simple-mark _ e = refl
 
@@ -286,14 +286,14 @@ module _ (sos : BidiClass) (old current : List BidiClass) (before strong : BidiC
   class = get_or current at d
 
   is_marked : class ≡ mark_type before class
-  is_marked = sym (cond-false (is_mark class) (mark_after before) class (simple-mark class simple))
+  is_marked = sym (cond-false (is_nonspacing_mark class) (mark_after before) class (simple-mark class simple))
 
   -- before such a type, pending types stay ON
   pub types-settle : (row : Row) (start : ℕ) → AreTypesSoFar sos old current before strong row start at → AreTypesSoFar sos old current before strong Nothing at at
   types-settle row start so_far =
       let none : at - at ≡ 0 = omega arith in
       let type = w3_type (digit_type strong (mark_type before class)) in
-      let later = read_types (if not (is_mark class) then class else before) (if is_strong (mark_type before class) then mark_type before class else strong) (drop (at + 1) old) in
+      let later = read_types (if not (is_nonspacing_mark class) then class else before) (if is_strong (mark_type before class) then mark_type before class else strong) (drop (at + 1) old) in
       let beyond : drop (at + 1) current ≡ drop (at + 1) old = sym (drop-drop 1 at current) ∙ ap (drop 1) so_far.rest ∙ drop-drop 1 at old in
       let item : drop at old ≡ class ∷ drop (at + 1) old = sym so_far.rest ∙ drop_more current at d within ∙ ap (λ xs. class ∷ xs) beyond in
       let read : read_types before strong (drop at old) ≡ type ∷ later = ap (read_types before strong) item in

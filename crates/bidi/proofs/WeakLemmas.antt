@@ -6,7 +6,7 @@ use Rattle.ucd.specs.declared.bidi_class.BidiClass.TheVariants.{L, R, AL, EN, ES
 use Rattle.bidi.specs.declared.weak_table.Row.TheVariants.{Nothing, European, Arabic, EuropeanTerminators, EuropeanSeparator, ArabicSeparator, Terminators}
 use Rattle.ucd.specs.Classes.{is_strong}
 use Rattle.bidi.specs.Neighbours.{each_by, nearest}
-use Rattle.ucd.specs.Classes.{is_mark}
+use Rattle.ucd.specs.Classes.{is_nonspacing_mark}
 use Rattle.bidi.specs.Weak.{is_number, is_left, is_terminator, w1_at, w1, w2_at, w2, w3, w3_type, w4_at, w4, w5_at, w5, w6, w6_type, w7_at, weak}
 use Rattle.bidi.specs.Waiting.{carry, mark_type, digit_type, read_types, number_type, types_after}
 
@@ -36,7 +36,7 @@ terminator_type before type after =
 abbrev pub left_type : BidiClass → BidiClass → List BidiClass → BidiClass
 left_type strong type after = if is_number type && is_left strong then L else type
 
-pub w1-by : (sos : BidiClass) (front : List BidiClass) (type : BidiClass) (after : List BidiClass) → w1_at sos front type after ≡ mark_type (nearest (λ t. not (is_mark t)) sos front) type
+pub w1-by : (sos : BidiClass) (front : List BidiClass) (type : BidiClass) (after : List BidiClass) → w1_at sos front type after ≡ mark_type (nearest (λ t. not (is_nonspacing_mark t)) sos front) type
 w1-by sos front NSM after = refl
 w1-by sos front _ after = refl
 
@@ -76,7 +76,7 @@ pub weak-later : (sos : BidiClass) (types : List BidiClass) → weak sos types �
 weak-later sos types =
     let first = w1 sos types in
     let second = w2 sos first in
-    let marked = carry-is (w1_at sos) (λ b type after. mark_type b type) (λ t. not (is_mark t)) sos (w1-by sos) [] types in
+    let marked = carry-is (w1_at sos) (λ b type after. mark_type b type) (λ t. not (is_nonspacing_mark t)) sos (w1-by sos) [] types in
     let read : w3 second ≡ read_types sos sos types =
     ap (map w3_type) (carry-is (w2_at sos) (λ s type after. digit_type s type) is_strong sos (w2-by sos) [] first
     ∙ ap (carry (λ s type after. digit_type s type) is_strong sos) marked) in

@@ -4,7 +4,7 @@ use Rattle.std.proofs.Common.{◌≡◌, ℕ, ◌≤◌, not, List, [], ◌++◌
 use Rattle.std.proofs.lemmas.List.{append-nil, at_drop_all}
 use Rattle.ucd.specs.declared.bidi_class.BidiClass.{BidiClass}
 use Rattle.ucd.specs.declared.bidi_class.BidiClass.TheVariants.{ON}
-use Rattle.ucd.specs.Classes.{is_mark, is_strong}
+use Rattle.ucd.specs.Classes.{is_nonspacing_mark, is_strong}
 use Rattle.bidi.specs.Weak.{w1, w1_at, w2, w2_at, w4, w4_at, w5, w5_at, w7, w7_at}
 use Rattle.bidi.specs.Waiting.{carry, digit_type, mark_type}
 use Rattle.bidi.proofs.WeakLemmas.{any, carry-is, ends_row, left_type, separator_type, terminator_type, w1-by, w2-by, w4-by, w5-by, w7-by}
@@ -16,7 +16,7 @@ finished rest nil done whole items k past e =
     sym (append-nil done) ∙ ap (λ xs. done ++ xs) (sym nil) ∙ sym (at_drop_all (λ xs. done ++ rest xs) items k past) ∙ e
 
 abbrev pub marked : BidiClass → List BidiClass → List BidiClass
-marked = carry (λ before type after. mark_type before type) (λ type. not (is_mark type))
+marked = carry (λ before type after. mark_type before type) (λ type. not (is_nonspacing_mark type))
 
 abbrev pub turned : BidiClass → List BidiClass → List BidiClass
 turned = carry (λ strong type after. digit_type strong type) is_strong
@@ -31,7 +31,7 @@ abbrev pub lefts : BidiClass → List BidiClass → List BidiClass
 lefts = carry left_type is_strong
 
 pub w1_carried : (sos : BidiClass) (types : List BidiClass) → w1 sos types ≡ marked sos types
-w1_carried sos types = carry-is (w1_at sos) (λ before type after. mark_type before type) (λ type. not (is_mark type)) sos (w1-by sos) [] types
+w1_carried sos types = carry-is (w1_at sos) (λ before type after. mark_type before type) (λ type. not (is_nonspacing_mark type)) sos (w1-by sos) [] types
 
 pub w2_carried : (sos : BidiClass) (types : List BidiClass) → w2 sos types ≡ turned sos types
 w2_carried sos types = carry-is (w2_at sos) (λ strong type after. digit_type strong type) is_strong sos (w2-by sos) [] types

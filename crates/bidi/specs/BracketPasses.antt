@@ -75,7 +75,7 @@ abbrev pub is_paired : List ℕ → ℕ → Bool
 is_paired partners k = nat_lt (slice_index partners k) (length partners)
 
 -- The step of the character at k, given the partners and the decision for each opening bracket. `unpaired` is
--- its case if it has no partner. `held` is the bracket whose direction N0 also gives to a mark at k, if any.
+-- its case if it has no partner. `held` is the bracket whose direction N0 also gives to a nonspacing mark at k, if any.
 abbrev pub step_given : List ℕ → (ℕ → Decision) → Option BracketCase → Bool → Option ℕ → ℕ → BracketStep
 step_given partners decision unpaired mark held k =
     if is_paired partners k
@@ -86,7 +86,7 @@ step_given partners decision unpaired mark held k =
     }
     else record { case = unpaired; partner = if mark then held else None; inside = None }
 
--- The bracket whose direction N0 also gives to a mark at k, if any. `sets` tests whether the character at an
+-- The bracket whose direction N0 also gives to a nonspacing mark at k, if any. `sets` tests whether the character at an
 -- index is a bracket that gets a direction.
 abbrev pub holder : (ℕ → Bool) → List Bool → ℕ → Option ℕ
 holder sets marks zero = None

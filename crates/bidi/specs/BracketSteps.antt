@@ -5,7 +5,7 @@ use Rattle.std.specs.Prelude.{ℕ, ◌+◌, ◌-◌, ◌==◌, nat_le, min, max,
 use Rattle.std.specs.List.{range_with_len}
 use Rattle.ucd.specs.declared.bidi_class.BidiClass.{BidiClass}
 use Rattle.ucd.specs.declared.bracket.Bracket.{Bracket}
-use Rattle.ucd.specs.Classes.{class_at, is_mark}
+use Rattle.ucd.specs.Classes.{class_at, is_nonspacing_mark}
 use Rattle.ucd.specs.Least.{least}
 use Rattle.bidi.specs.Brackets.{Pair, closer_of, context, greatest, is_full, is_live, is_other, is_set_with, is_toward, pair_step, pairs_before, pairs_of, stands}
 use Rattle.bidi.specs.Neutral.{agree}
@@ -68,7 +68,7 @@ module _ (bracket_of : ℕ → Option Bracket) (embedding sos : BidiClass) (char
   -- the types from which N0 decides the case of the pair that opens at a: the types after the earlier pairs
   -- have been resolved
   abbrev pub types_for : ℕ → List BidiClass
-  types_for a = resolved_before embedding sos (map is_mark explicit) (closer_of (pairs_of bracket_of characters types)) types a
+  types_for a = resolved_before embedding sos (map is_nonspacing_mark explicit) (closer_of (pairs_of bracket_of characters types)) types a
 
   abbrev pub case_with : ℕ → Option ℕ → Option BracketCase
   case_with k (Some j) = Some (pair_case (is_left embedding) sos (types_for (min k j)) (min k j) (max k j))
@@ -78,10 +78,10 @@ module _ (bracket_of : ℕ → Option Bracket) (embedding sos : BidiClass) (char
   abbrev pub case_at : ℕ → Option BracketCase
   case_at k = case_with k (partner_in (pairs_of bracket_of characters types) k)
 
-  -- the bracket whose direction N0 also gives to the mark at k: the nearest bracket before k that gets a
-  -- direction, if only marks are between it and k
+  -- the bracket whose direction N0 also gives to the nonspacing mark at k: the nearest bracket before k that gets a
+  -- direction, if only nonspacing marks are between it and k
   abbrev pub set_by : ℕ → Option ℕ
-  set_by k = greatest (λ p. has_direction (case_at p) && is_set_with (map is_mark explicit) p k) k
+  set_by k = greatest (λ p. has_direction (case_at p) && is_set_with (map is_nonspacing_mark explicit) p k) k
 
   abbrev pub step_with : ℕ → Option ℕ → BracketStep
   step_with k (Some j) = record {

@@ -8,7 +8,7 @@ use Rattle.ucd.specs.Classes.{class_at}
 use Rattle.ucd.specs.Least.{least}
 use Rattle.bidi.specs.Neighbours.{nearest}
 use Rattle.bidi.specs.Neutral.{agree, side}
-use Rattle.ucd.specs.Classes.{is_mark}
+use Rattle.ucd.specs.Classes.{is_nonspacing_mark}
 use Rattle.bidi.specs.Weak.{is_left}
 
 abbrev pub is_other : BidiClass → Bool
@@ -115,15 +115,15 @@ pair_direction left sos types a b =
     if stands left types a b then Some (side left)
     else (if stands (not left) types a b then Some (side (if agree left (is_left (context sos types a)) then left else not left)) else None)
 
--- Whether the character at k is the bracket at p or one of the marks directly after it. A mark is a character
--- whose type was NSM before W1.
+-- Whether the character at k is the bracket at p or one of the nonspacing marks directly after it. A nonspacing mark is
+-- a character whose type was NSM before W1.
 abbrev pub is_set_with : List Bool → ℕ → ℕ → Bool
 is_set_with marks p k = (p == k) || (nat_lt p k && list_all (λ mark. mark) (slice_range marks (p + 1) (k + 1)))
 
 abbrev pub set_with : List Bool → BidiClass → List BidiClass → ℕ → List BidiClass
 set_with marks direction types p = map (λ k. if is_set_with marks p k then direction else class_at types k) (range_with_len 0 (length types))
 
--- the types that result when both brackets of a pair, and the marks directly after them, get the pair's
+-- the types that result when both brackets of a pair, and the nonspacing marks directly after them, get the pair's
 -- direction, if it has one
 abbrev pub set_pair : List Bool → List BidiClass → ℕ → ℕ → Option BidiClass → List BidiClass
 set_pair marks types a b (Some direction) = set_with marks direction (set_with marks direction types a) b
@@ -142,4 +142,4 @@ module _ (embedding : BidiClass) (sos : BidiClass) (marks : List Bool) where
 -- N0 on a sequence: `explicit` holds the types before W1, and `types` holds the current types
 abbrev pub brackets : (ℕ → Option Bracket) → BidiClass → BidiClass → List ℕ → List BidiClass → List BidiClass → List BidiClass
 brackets bracket_of embedding sos characters explicit types =
-    resolve_pairs embedding sos (map is_mark explicit) (closer_of (pairs_of bracket_of characters types)) types
+    resolve_pairs embedding sos (map is_nonspacing_mark explicit) (closer_of (pairs_of bracket_of characters types)) types

@@ -17,7 +17,7 @@ use Rattle.bidi.specs.Explicit.{directed}
 use Rattle.bidi.specs.Isolates.{matches_of}
 use Rattle.bidi.specs.Levels.{levels_of}
 use Rattle.bidi.specs.Reasons.{explicit_step, index_from, Sequence, sequences_by}
-use Rattle.bidi.specs.Sequences.{stayed}
+use Rattle.bidi.specs.Sequences.{retained}
 
 -- the index of the first item that equals k, if there is one
 abbrev pub index_of : List ℕ → ℕ → Option ℕ
@@ -67,7 +67,7 @@ level_reason classes acting base sequences levels p = record {
   explicit = explicit_step base acting p;
   matching = matching acting p;
   level = slice_index levels p;
-  resolved = option_and_then (resolved_in (stayed acting) sequences) (index_of (stayed acting) p);
+  resolved = option_and_then (resolved_in (retained acting) sequences) (index_of (retained acting) p);
   level_from = if is_removed (class_at acting p) then greatest (λ k. not (is_removed (class_at acting k))) p else None;
 }
 

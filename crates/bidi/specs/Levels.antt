@@ -10,7 +10,7 @@ use Rattle.bidi.specs.Brackets.{brackets}
 use Rattle.ucd.specs.Classes.{class_at}
 use Rattle.bidi.specs.Explicit.{directed, level_at, type_at}
 use Rattle.ucd.specs.Classes.{is_removed}
-use Rattle.bidi.specs.Sequences.{stayed, sequences, first_of, sos, eos, direction}
+use Rattle.bidi.specs.Sequences.{retained, sequences, first_of, sos, eos, direction}
 use Rattle.bidi.specs.Weak.{weak}
 use Rattle.bidi.specs.Neutral.{neutral, implicit_level}
 
@@ -47,7 +47,7 @@ put_back before (class ∷ classes) (level ∷ levels) =
 -- each FSI has been replaced by LRI or RLI.
 abbrev pub levels_by : (ℕ → Option Bracket) → List ℕ → List BidiClass → ℕ → List ℕ
 levels_by bracket_of text classes base =
-    let places = stayed classes in
+    let places = retained classes in
     put_back base classes (resolved bracket_of base (map (slice_index text) places) (map (class_at classes) places) (map (level_at base classes) places) (map (type_at base classes) places))
 
 abbrev pub paragraph_levels : (ℕ → Option Bracket) → List ℕ → List BidiClass → ℕ → List ℕ

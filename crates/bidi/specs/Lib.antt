@@ -20,11 +20,11 @@ pub mod Plain
 pub mod ReasonParts
 pub mod Reasons
 pub mod Resolving
+pub mod Retained
 pub mod Rows
 pub mod Runs
 pub mod SequenceSteps
 pub mod Sequences
-pub mod Stayed
 pub mod TextCuts
 pub mod Waiting
 pub mod Weak

@@ -9,7 +9,7 @@ use Rattle.bidi.specs.Levels.{levels_in, put, resolved}
 use Rattle.ucd.specs.Within.{AreWithin}
 use Rattle.bidi.specs.Runs.{sequence_at}
 use Rattle.bidi.specs.Sequences.{direction, first_of, last_of, level_before, level_after}
-use Rattle.bidi.specs.Stayed.{HasAll}
+use Rattle.bidi.specs.Retained.{HasAll}
 use Rattle.bidi.specs.declared.sequence_levels.Paragraph.{Paragraph}
 use Rattle.bidi.specs.declared.sequence_levels.Sequence.{Sequence}
 use Rattle.bidi.specs.declared.sequence_levels.Sides.{Sides}
@@ -32,29 +32,29 @@ OfAllTexts brackets n holds = (look : ℕ → Option Bracket) (text : List ℕ) 
 -- `p` holds the class, level and type of each kept character, their bracket types if any of them is a
 -- bracket, and the matches of all initiators
 pub record IsReady (p : Paragraph) : Type 0 where
-  pub stayed : HasAll p.stayed.now
-  pub matches : p.matches.now ≡ matches_of p.stayed.now.classes.items
-  pub found : length p.matches.now ≡ length p.stayed.now.levels.items
-  pub brackets : AreFor p.brackets (length p.stayed.now.levels.items)
+  pub retained : HasAll p.retained.now
+  pub matches : p.matches.now ≡ matches_of p.retained.now.classes.items
+  pub found : length p.matches.now ≡ length p.retained.now.levels.items
+  pub brackets : AreFor p.brackets (length p.retained.now.levels.items)
 
 abbrev pub sequence_in : Paragraph → ℕ → List ℕ
-sequence_in p start = sequence_at p.stayed.now.classes.items p.stayed.now.levels.items start
+sequence_in p start = sequence_at p.retained.now.classes.items p.retained.now.levels.items start
 
 -- the levels `done`, after the levels of the sequence that begins at `start` have been written to them
 abbrev pub write_by : (ℕ → Option Bracket) → List ℕ → Paragraph → List ℕ → ℕ → List ℕ
 write_by look text p done start =
     put done (sequence_in p start)
-    (levels_in look p.base text p.stayed.now.classes.items
-    p.stayed.now.levels.items p.stayed.now.types.items (sequence_in p start))
+    (levels_in look p.base text p.retained.now.classes.items
+    p.retained.now.levels.items p.retained.now.types.items (sequence_in p start))
 
 abbrev pub resolved_by : (ℕ → Option Bracket) → List ℕ → Paragraph → List ℕ
-resolved_by look text p = resolved look p.base text p.stayed.now.classes.items p.stayed.now.levels.items p.stayed.now.types.items
+resolved_by look text p = resolved look p.base text p.retained.now.classes.items p.retained.now.levels.items p.retained.now.types.items
 
 -- `sides` holds the level, sos and eos of the sequence whose first and last characters are at `first` and `last`
 pub record AreSidesBetween (p : Paragraph) (first last : ℕ) (sides : Sides) : Type 0 where
-  pub level_is : sides.level ≡ slice_index p.stayed.now.levels.items first
-  pub sos_is : sides.sos ≡ direction (max (slice_index p.stayed.now.levels.items first) (level_before p.base p.stayed.now.levels.items first))
-  pub eos_is : sides.eos ≡ direction (max (slice_index p.stayed.now.levels.items last) (level_after p.base p.stayed.now.classes.items p.stayed.now.levels.items last))
+  pub level_is : sides.level ≡ slice_index p.retained.now.levels.items first
+  pub sos_is : sides.sos ≡ direction (max (slice_index p.retained.now.levels.items first) (level_before p.base p.retained.now.levels.items first))
+  pub eos_is : sides.eos ≡ direction (max (slice_index p.retained.now.levels.items last) (level_after p.base p.retained.now.classes.items p.retained.now.levels.items last))
 
 abbrev pub AreSides : Paragraph → List ℕ → Sides → Type 0
 AreSides p places sides = AreSidesBetween p (first_of places) (last_of places) sides
@@ -63,8 +63,8 @@ AreSides p places sides = AreSidesBetween p (first_of places) (last_of places) s
 -- current types in `sequence` are still the explicit types.
 pub record Takes (p : Paragraph) (start : ℕ) (sequence : Sequence) : Type 0 where
   pub places_are : sequence.places.items ≡ sequence_in p start
-  pub within : AreWithin (length p.stayed.now.levels.items) sequence.places.items
+  pub within : AreWithin (length p.retained.now.levels.items) sequence.places.items
   pub some : 0 < length sequence.places.items
   pub brackets_are : p.brackets.has_any ≡ true → sequence.brackets.items ≡ map (bracket_at p.brackets.types.now) sequence.places.items
-  pub explicit_are : sequence.explicit.items ≡ map (class_at p.stayed.now.types.items) sequence.places.items
+  pub explicit_are : sequence.explicit.items ≡ map (class_at p.retained.now.types.items) sequence.places.items
   pub types_are : sequence.types.items ≡ sequence.explicit.items

@@ -6,7 +6,7 @@ use Rattle.bidi.specs.declared.level_reason.Parts.{Parts}
 use Rattle.bidi.specs.Isolates.{matches_of}
 use Rattle.bidi.specs.LevelReasons.{index_of, resolved_in}
 use Rattle.bidi.specs.Reasons.{explicit_steps, index_from, Sequence}
-use Rattle.bidi.specs.Sequences.{stayed}
+use Rattle.bidi.specs.Sequences.{retained}
 
 -- `new` is `old` after these writes: for each k from `from` on, in descending order, `value k` at the index
 -- that item k of `items` gives
@@ -29,5 +29,5 @@ pub record AreParts (classes : List BidiClass) (base : ℕ) (sequences : List Se
   pub matches_are : parts.matches.now ≡ matches_of classes
   pub explicit_are : parts.explicit.now ≡ explicit_steps base classes
   pub initiators_are : parts.initiators.now ≡ map (index_of (matches_of classes)) (range_with_len 0 (length classes))
-  pub indices_are : parts.indices.now ≡ map (index_of (stayed classes)) (range_with_len 0 (length classes))
-  pub resolved_are : parts.resolved.now ≡ map (resolved_in (stayed classes) sequences) (range_with_len 0 (length (stayed classes)))
+  pub indices_are : parts.indices.now ≡ map (index_of (retained classes)) (range_with_len 0 (length classes))
+  pub resolved_are : parts.resolved.now ≡ map (resolved_in (retained classes) sequences) (range_with_len 0 (length (retained classes)))

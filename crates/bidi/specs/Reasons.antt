@@ -16,7 +16,7 @@ use Rattle.bidi.specs.BracketSteps.{bracket_step}
 use Rattle.bidi.specs.Explicit.{directed, inside_at, level_at, opener_at, type_at}
 use Rattle.bidi.specs.Neighbours.{nearest}
 use Rattle.bidi.specs.Neutral.{agree, implicit_level, is_neutral, neutral_at}
-use Rattle.bidi.specs.Sequences.{direction, eos, first_of, sequences, sos, stayed}
+use Rattle.bidi.specs.Sequences.{direction, eos, first_of, sequences, sos, retained}
 use Rattle.bidi.specs.Weak.{is_left, w1, w2, w3, w4, w5, w6, weak}
 use Rattle.bidi.specs.declared.bracket_steps.BracketStep.{BracketStep}
 use Rattle.bidi.specs.declared.explicit_steps.ExplicitStep.{ExplicitStep}
@@ -141,7 +141,7 @@ module _ (bracket_of : ℕ → Option Bracket) (base : ℕ) (characters : List �
 -- the sequences of a paragraph, given its characters, their classes and the paragraph level, as in `levels_by`
 abbrev pub sequences_by : (ℕ → Option Bracket) → List ℕ → List BidiClass → ℕ → List Sequence
 sequences_by bracket_of text classes base =
-    let places = stayed classes in
+    let places = retained classes in
     all_sequences bracket_of base (map (slice_index text) places) (map (class_at classes) places) (map (level_at base classes) places) (map (type_at base classes) places)
 
 -- `reasons` holds what each rule does with the characters of a paragraph
@@ -149,7 +149,7 @@ pub record AreReasons (tables : Tables) (text : List ℕ) (base : Base) (reasons
   pub classes_are : reasons.classes.items ≡ directed (map (class_of tables) text)
   pub matches_are : reasons.matches.items ≡ matches_of (directed (map (class_of tables) text))
   pub explicit_are : reasons.explicit.items ≡ explicit_steps (base_level_of (map (class_of tables) text) base) (directed (map (class_of tables) text))
-  pub kept_are : reasons.kept.items ≡ stayed (directed (map (class_of tables) text))
+  pub kept_are : reasons.kept.items ≡ retained (directed (map (class_of tables) text))
   pub sequences_are : map sequence_of reasons.sequences.items
       ≡ sequences_by (bracket_of tables) text (directed (map (class_of tables) text)) (base_level_of (map (class_of tables) text) base)
   pub levels_are : reasons.levels.items ≡ levels_of tables text base

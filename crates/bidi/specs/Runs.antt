@@ -29,6 +29,6 @@ abbrev pub next_start : List ℕ → ℕ → Option ℕ
 next_start levels k = if nat_lt k (length levels) && not (slice_index levels k == slice_index levels (k - 1)) then Some k else None
 
 -- the list of flags, with the flag at the given index set, if an index is given
-abbrev pub marked : List Bool → Option ℕ → List Bool
-marked marks None = marks
-marked marks (Some place) = slice_set marks place true
+abbrev pub flagged : List Bool → Option ℕ → List Bool
+flagged flags None = flags
+flagged flags (Some place) = slice_set flags place true

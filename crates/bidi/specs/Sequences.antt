@@ -10,8 +10,8 @@ use Rattle.bidi.specs.Base.{match_of}
 use Rattle.bidi.specs.Cuts.{paragraphs}
 
 -- the indices of the characters that X9 keeps in a paragraph
-abbrev pub stayed : List BidiClass → List ℕ
-stayed classes = filter (λ k. not (is_removed (class_at classes k))) (range_with_len 0 (length classes))
+abbrev pub retained : List BidiClass → List ℕ
+retained classes = filter (λ k. not (is_removed (class_at classes k))) (range_with_len 0 (length classes))
 
 -- BD7: level runs are the parts of the list between changes of level
 abbrev pub changes : List ℕ → ℕ → ℕ → Bool

@@ -6,7 +6,7 @@ use Rattle.ucd.specs.declared.bidi_class.BidiClass.TheVariants.{L, EN, ES, ET, A
 use Rattle.bidi.specs.declared.weak_table.Row.{Row}
 use Rattle.bidi.specs.declared.weak_table.Row.TheVariants.{Nothing, European, Arabic, EuropeanTerminators, EuropeanSeparator, ArabicSeparator, Terminators}
 use Rattle.ucd.specs.Classes.{is_strong}
-use Rattle.ucd.specs.Classes.{is_mark}
+use Rattle.ucd.specs.Classes.{is_nonspacing_mark}
 use Rattle.bidi.specs.Weak.{mark_after, is_number, is_arabic, is_left, w3_type}
 
 -- Applies a rule to each item of a list. The rule looks back only at the nearest item that passes the test,
@@ -17,7 +17,7 @@ carry rule test before (item ∷ after) = rule before item after ∷ carry rule 
 
 -- W1 and W2 for one type, given the earlier type that each rule looks back at
 abbrev pub mark_type : BidiClass → BidiClass → BidiClass
-mark_type before type = if is_mark type then mark_after before else type
+mark_type before type = if is_nonspacing_mark type then mark_after before else type
 
 abbrev pub digit_type : BidiClass → BidiClass → BidiClass
 digit_type strong type = if is_number type && is_arabic strong then AN else type
@@ -25,7 +25,7 @@ digit_type strong type = if is_number type && is_arabic strong then AN else type
 -- W1 to W3 for a list, given the last type before it that is not NSM, and the last strong type before it
 abbrev pub read_types : BidiClass → BidiClass → List BidiClass → List BidiClass
 read_types before strong types =
-    map w3_type (carry (λ s type after. digit_type s type) is_strong strong (carry (λ b type after. mark_type b type) (λ type. not (is_mark type)) before types))
+    map w3_type (carry (λ s type after. digit_type s type) is_strong strong (carry (λ b type after. mark_type b type) (λ type. not (is_nonspacing_mark type)) before types))
 
 -- the type of a European number after W7, given whether the nearest strong type before it is L
 abbrev pub number_type : Bool → BidiClass

@@ -3,7 +3,7 @@
 use Rattle.std.specs.Prelude.{Bool, true, false, ◌||◌, not, List, [], ◌∷◌, map, if◌then◌else◌}
 use Rattle.ucd.specs.declared.bidi_class.BidiClass.{BidiClass}
 use Rattle.ucd.specs.declared.bidi_class.BidiClass.TheVariants.{L, R, AL, EN, ES, ET, AN, CS, NSM, ON, LRI, RLI, FSI, PDI}
-use Rattle.ucd.specs.Classes.{is_strong, is_mark}
+use Rattle.ucd.specs.Classes.{is_strong, is_nonspacing_mark}
 use Rattle.bidi.specs.Neighbours.{each_by, nearest}
 
 abbrev pub is_terminator : BidiClass → Bool
@@ -32,7 +32,7 @@ mark_after PDI = ON
 mark_after type = type
 
 abbrev pub w1_at : BidiClass → List BidiClass → BidiClass → List BidiClass → BidiClass
-w1_at sos before NSM after = mark_after (nearest (λ type. not (is_mark type)) sos before)
+w1_at sos before NSM after = mark_after (nearest (λ type. not (is_nonspacing_mark type)) sos before)
 w1_at sos before type after = type
 
 abbrev pub w1 : BidiClass → List BidiClass → List BidiClass

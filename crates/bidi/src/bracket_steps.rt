@@ -3,7 +3,7 @@
 ghost use Rattle.std.specs.Prelude.{◌≡◌, ℕ, ◌<◌, ◌≤◌, length, map, is_some, IfOk, OnOk, List, Option};
 ghost use Rattle.std.specs.Prelude.{false, true, not, if◌then◌else◌, None, Some};
 ghost use Rattle.std.specs.List.{range_with_len};
-ghost use Rattle.ucd.specs.Classes.{is_mark};
+ghost use Rattle.ucd.specs.Classes.{is_nonspacing_mark};
 ghost use Rattle.ucd.specs.declared.bracket.Bracket.{Bracket};
 ghost use Rattle.bidi.specs.BracketPasses.{ArePartners, closer_by, decision_by, direction_in};
 ghost use Rattle.bidi.specs.BracketPasses.{is_open, is_past_by, paired_by, step_by, step_given};
@@ -20,8 +20,8 @@ ghost use Rattle.bidi.specs.declared.bracket_steps.BracketCase.{BracketCase};
 
 use crate::bracket_type::{BracketType, is_bracket};
 use crate::brackets::{
-    MAX_OPENERS, Opener, bracket_in, is_left, is_mark, is_other, matching, next_toward, set_pair,
-    side, strong_before,
+    MAX_OPENERS, Opener, bracket_in, is_left, is_nonspacing_mark, is_other, matching, next_toward,
+    set_pair, side, strong_before,
 };
 use std::alloc::{AllocError, Global};
 use ucd::BidiClass;
@@ -54,7 +54,7 @@ pub struct BracketStep {
     /// The case that applies, or `None` if the character is not a bracket according to its bracket type.
     pub case: Option<BracketCase>,
     /// For a bracket of a pair, the other bracket. For a nonspacing mark whose type N0 sets, the bracket
-    /// before it whose direction the mark also gets. Otherwise `None`.
+    /// before it whose direction the nonspacing mark also gets. Otherwise `None`.
     pub partner: Option<usize>,
     /// The strong type that decides the case, if the pair contains one. In case B, this is the first one of
     /// the embedding direction. In cases C1 and C2, it is the first strong type.
@@ -246,7 +246,7 @@ fn direction_in(left: bool, case: BracketCase) -> Option<BidiClass>
 }
 
 // Returns what N0 decides for the pair that opens at an index, if there is one. If the pair gets a direction,
-// sets the types of its brackets, and of the marks after them.
+// sets the types of its brackets, and of the nonspacing marks after them.
 fn resolve_at(
     types: &mut [BidiClass],
     explicit: &[BidiClass],
@@ -259,7 +259,8 @@ fn resolve_at(
     requires partners { length partners.now ≡ length types.old }
     requires within { k < length types.old }
     ensures types { types.new
-        ≡ pair_step embedding sos (map is_mark explicit.now) types.old k (closer_by partners.now k) }
+        ≡ pair_step embedding sos (map is_nonspacing_mark explicit.now) types.old k
+        (closer_by partners.now k) }
     ensures decision { result ≡ decision_by (is_left embedding) sos types.old k (closer_by partners.now k) }
 {
     let left = is_left(embedding);
@@ -292,7 +293,8 @@ fn resolve_all(
     requires explicit { length explicit.now ≡ length types.old }
     requires partners { length partners.now ≡ length types.old }
     ensures { IfOk result (λ list. list.items ≡ map (λ a. decision_by (is_left embedding) sos
-        (resolved_before embedding sos (map is_mark explicit.now) (closer_by partners.now) types.old a) a
+        (resolved_before embedding sos (map is_nonspacing_mark explicit.now) (closer_by partners.now)
+        types.old a) a
         (closer_by partners.now a)) (range_with_len 0 (length types.old))) }
 {
     let mut list = Vec::with_capacity(alloc, types.len())?;
@@ -311,19 +313,20 @@ fn has_direction(case: Option<BracketCase>) -> bool
     )
 }
 
-// Returns the bracket whose direction N0 also gives to the character after `k` if it is a mark, or `None` if
-// there is no such bracket.
+// Returns the bracket whose direction N0 also gives to the character after `k` if it is a nonspacing mark, or
+// `None` if there is no such bracket.
 fn held_after(
     case: Option<BracketCase>,
     explicit: BidiClass,
     held: Option<usize>,
     k: usize,
 ) -> Option<usize>
-    ensures { result ≡ (if has_direction case then Some k else (if is_mark explicit then held else None)) }
+    ensures { result ≡ (if has_direction case then Some k
+        else (if is_nonspacing_mark explicit then held else None)) }
 {
     if has_direction(case) {
         Some(k)
-    } else if is_mark(explicit) {
+    } else if is_nonspacing_mark(explicit) {
         held
     } else {
         None
@@ -343,7 +346,7 @@ fn step_at(
     requires within { k < length partners.now }
     ensures { (decision : ℕ → Decision)
         → decisions.now ≡ map decision (range_with_len 0 (length partners.now))
-        → result ≡ step_given partners.now decision unpaired (is_mark explicit) held k }
+        → result ≡ step_given partners.now decision unpaired (is_nonspacing_mark explicit) held k }
 {
     let partner = partners[k];
     if partner < partners.len() {
@@ -356,7 +359,11 @@ fn step_at(
     } else {
         BracketStep {
             case: unpaired,
-            partner: if is_mark(explicit) { held } else { None },
+            partner: if is_nonspacing_mark(explicit) {
+                held
+            } else {
+                None
+            },
             inside: None,
         }
     }
@@ -377,7 +384,7 @@ fn gather_steps(
     ensures { IfOk result (λ list. (decision : ℕ → Decision) (case : ℕ → Option BracketCase)
         → decisions.now ≡ map decision (range_with_len 0 (length partners.now))
         → unpaired.now ≡ map case (range_with_len 0 (length partners.now))
-        → list.items ≡ map (step_by partners.now decision case (map is_mark explicit.now))
+        → list.items ≡ map (step_by partners.now decision case (map is_nonspacing_mark explicit.now))
         (range_with_len 0 (length partners.now))) }
 {
     let mut list = Vec::with_capacity(alloc, partners.len())?;

@@ -11,7 +11,7 @@ ghost use Rattle.bidi.specs.Brackets.{context, is_direction};
 ghost use Rattle.bidi.specs.Brackets.{is_toward, stands, set_with, set_pair};
 ghost use Rattle.bidi.specs.Closers.{closers_by, closers_of, closer_in, AreInOrder, AreNested};
 ghost use Rattle.bidi.specs.Closers.{closed_by, index_of, left_by, newest};
-ghost use Rattle.ucd.specs.Classes.{is_mark};
+ghost use Rattle.ucd.specs.Classes.{is_nonspacing_mark};
 ghost use Rattle.bidi.specs.Weak.{is_left};
 ghost use Rattle.ucd.specs.Classes.{class_at};
 ghost use Rattle.bidi.specs.Neutral.{agree, side};
@@ -221,8 +221,8 @@ fn is_toward(left: bool, class: BidiClass) -> bool
     }
 }
 
-// Sets the types of each pair's brackets, and of the marks after them, to the pair's direction, in the order
-// of the opening brackets (N0). `before` holds the types before N0.
+// Sets the types of each pair's brackets, and of the nonspacing marks after them, to the pair's direction, in
+// the order of the opening brackets (N0). `before` holds the types before N0.
 fn resolve_brackets(
     types: &mut [BidiClass],
     before: &[BidiClass],
@@ -236,7 +236,7 @@ fn resolve_brackets(
     requires order { AreInOrder pairs.now (length types.old) }
     requires nested { AreNested types.old (closers_by pairs.now (length types.old)) }
     ensures { types.new
-        ≡ resolve_pairs embedding sos (map is_mark explicit.now)
+        ≡ resolve_pairs embedding sos (map is_nonspacing_mark explicit.now)
         (closer_in (closers_by pairs.now (length types.old))) types.old }
 {
     let left = is_left(embedding);
@@ -280,8 +280,8 @@ fn stands_inside(
     if is_other(types[place]) {
         *next < closer
     } else {
-        // This bracket is one of the marks after an earlier bracket, and the types of those marks have
-        // changed.
+        // This bracket is one of the nonspacing marks after an earlier bracket, and the types of those
+        // nonspacing marks have changed.
         next_toward(types, left, place + 1, closer) < closer
     }
 }
@@ -332,8 +332,8 @@ pub(crate) fn is_left(class: BidiClass) -> bool
     matches!(class, BidiClass::L)
 }
 
-pub(crate) fn is_mark(class: BidiClass) -> bool
-    ensures { result ≡ is_mark class }
+pub(crate) fn is_nonspacing_mark(class: BidiClass) -> bool
+    ensures { result ≡ is_nonspacing_mark class }
 {
     matches!(class, BidiClass::NSM)
 }
@@ -360,8 +360,8 @@ fn is_direction(class: BidiClass) -> bool
     )
 }
 
-// If the pair has a direction, sets the types of its brackets, and of the marks after them, to that
-// direction.
+// If the pair has a direction, sets the types of its brackets, and of the nonspacing marks after them, to
+// that direction.
 pub(crate) fn set_pair(
     types: &mut [BidiClass],
     explicit: &[BidiClass],
@@ -372,7 +372,7 @@ pub(crate) fn set_pair(
     requires explicit { length explicit.now ≡ length types.old }
     requires place { place < length types.old }
     requires closer { closer < length types.old }
-    ensures { types.new ≡ set_pair (map is_mark explicit.now) types.old place closer direction }
+    ensures { types.new ≡ set_pair (map is_nonspacing_mark explicit.now) types.old place closer direction }
 {
     if let Some(direction) = direction {
         set_with_marks(types, explicit, place, direction);
@@ -380,7 +380,7 @@ pub(crate) fn set_pair(
     }
 }
 
-// Sets the type of a bracket, and of the marks directly after it.
+// Sets the type of a bracket, and of the nonspacing marks directly after it.
 fn set_with_marks(
     types: &mut [BidiClass],
     explicit: &[BidiClass],
@@ -389,11 +389,11 @@ fn set_with_marks(
 )
     requires explicit { length explicit.now ≡ length types.old }
     requires place { place < length types.old }
-    ensures { types.new ≡ set_with (map is_mark explicit.now) direction types.old place }
+    ensures { types.new ≡ set_with (map is_nonspacing_mark explicit.now) direction types.old place }
 {
     types[place] = direction;
     let mut at = place + 1;
-    while at < types.len() && is_mark(explicit[at]) {
+    while at < types.len() && is_nonspacing_mark(explicit[at]) {
         types[at] = direction;
         at += 1;
     }

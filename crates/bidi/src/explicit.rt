@@ -4,7 +4,7 @@ ghost use Rattle.std.specs.Prelude.{◌≡◌, ◌≤◌, ◌∷◌, [], ◌++�
 ghost use Rattle.ucd.specs.Classes.{is_pdi, is_separator};
 ghost use Rattle.bidi.specs.Explicit.{level_above, override_of, close_embedding, close_isolate, open_after};
 ghost use Rattle.bidi.specs.Openers.{Holds, IsDepth, IsInnermost, Follows, AreOpeners, ClosesIsolate};
-ghost use Rattle.bidi.specs.Stayed.{IsStayed};
+ghost use Rattle.bidi.specs.Retained.{IsRetained};
 
 use crate::classes::{is_initiator, is_pdi, is_removed};
 use arrayvec::ArrayVec;
@@ -20,15 +20,15 @@ const MAX_ENTRIES: usize = 127;
 /// The class, explicit level and explicit type of each character that X9 keeps in a paragraph, in text order.
 /// The lists are reused for each paragraph.
 #[derive(Drop)]
-pub(crate) struct Stayed {
+pub(crate) struct Retained {
     pub classes: Vec<BidiClass>,
     pub levels: Vec<u8>,
     pub types: Vec<BidiClass>,
 }
 
-impl Stayed {
-    pub fn new(alloc: Global) -> Stayed {
-        Stayed {
+impl Retained {
+    pub fn new(alloc: Global) -> Retained {
+        Retained {
             classes: Vec::new(alloc),
             levels: Vec::new(alloc),
             types: Vec::new(alloc),
@@ -236,43 +236,43 @@ fn override_of(opener: BidiClass) -> Option<BidiClass>
     }
 }
 
-// Appends to `stayed` the class, explicit level and explicit type of a character that X9 keeps.
+// Appends to `retained` the class, explicit level and explicit type of a character that X9 keeps.
 fn push_character(
-    stayed: &mut Stayed,
+    retained: &mut Retained,
     status: Status,
     class: BidiClass,
     base: u8,
 ) -> Result<(), AllocError>
-    ensures classes { OnOk result (stayed.new.classes.items ≡ stayed.old.classes.items ++ class ∷ []) }
-    ensures levels { OnOk result (stayed.new.levels.items
-        ≡ stayed.old.levels.items ++ (if is_separator class then base else status.level) ∷ []) }
-    ensures types { OnOk result (stayed.new.types.items
-        ≡ stayed.old.types.items
+    ensures classes { OnOk result (retained.new.classes.items ≡ retained.old.classes.items ++ class ∷ []) }
+    ensures levels { OnOk result (retained.new.levels.items
+        ≡ retained.old.levels.items ++ (if is_separator class then base else status.level) ∷ []) }
+    ensures types { OnOk result (retained.new.types.items
+        ≡ retained.old.types.items
         ++ (if is_separator class then class else unwrap_or status.overriding class) ∷ []) }
 {
     match class {
-        BidiClass::B => stayed.push(class, base, class),
-        _ => stayed.push(class, status.level, status.overriding.unwrap_or(class)),
+        BidiClass::B => retained.push(class, base, class),
+        _ => retained.push(class, status.level, status.overriding.unwrap_or(class)),
     }
 }
 
-/// Replaces the contents of `stayed` with the class, level and type of each character that X9 keeps in a
+/// Replaces the contents of `retained` with the class, level and type of each character that X9 keeps in a
 /// paragraph. In `classes`, each FSI must already be replaced by LRI or RLI.
 pub(crate) fn explicit(
     classes: &[BidiClass],
     base: u8,
-    stayed: &mut Stayed,
+    retained: &mut Retained,
 ) -> Result<(), AllocError>
     requires { base ≤ 1 }
-    ensures { OnOk result (IsStayed classes.now base stayed.new) }
+    ensures { OnOk result (IsRetained classes.now base retained.new) }
 {
-    stayed.clear(classes.len())?;
+    retained.clear(classes.len())?;
     let mut openers = Openers::new(base);
     for class in classes {
         let class = *class;
         openers.reach(class);
         if !is_removed(class) {
-            push_character(stayed, openers.status(), class, base)?;
+            push_character(retained, openers.status(), class, base)?;
         }
         openers.pass(class);
     }

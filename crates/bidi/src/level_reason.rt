@@ -13,7 +13,7 @@ ghost use Rattle.bidi.specs.LevelReasons.{moved, position, reason_in, resolved_i
 ghost use Rattle.bidi.specs.Levels.{levels_of};
 ghost use Rattle.bidi.specs.ReasonParts.{AreParts, AreSized, IsFilled};
 ghost use Rattle.bidi.specs.Reasons.{sequence_of, Sequence};
-ghost use Rattle.bidi.specs.Sequences.{stayed};
+ghost use Rattle.bidi.specs.Sequences.{retained};
 
 use crate::base::Base;
 use crate::bracket_steps::BracketStep;
@@ -228,8 +228,8 @@ fn resolved_at(parts: &Parts<'_>, p: usize) -> Option<SequenceReason>
     requires within { p < length parts.now.classes.now }
     ensures { (base : ℕ) (sequences : List Sequence)
         → AreParts parts.now.classes.now base sequences parts.now
-        → result ≡ option_and_then (resolved_in (stayed parts.now.classes.now) sequences)
-        (index_of (stayed parts.now.classes.now) p) }
+        → result ≡ option_and_then (resolved_in (retained parts.now.classes.now) sequences)
+        (index_of (retained parts.now.classes.now) p) }
 {
     match parts.indices[p] {
         Some(q) => reason_at(parts.resolved, q),

@@ -5,13 +5,13 @@ ghost use Rattle.bidi.specs.Isolates.{matches_of};
 ghost use Rattle.bidi.specs.Levels.{levels_by, paragraph_levels, put_back, resolved};
 ghost use Rattle.bidi.specs.Paragraphs.{AreFor, OfAllTexts};
 ghost use Rattle.bidi.specs.Plain.{is_plain};
-ghost use Rattle.bidi.specs.Sequences.{stayed};
-ghost use Rattle.bidi.specs.Stayed.{HasAll};
+ghost use Rattle.bidi.specs.Sequences.{retained};
+ghost use Rattle.bidi.specs.Retained.{HasAll};
 
 use crate::bracket_type::BracketType;
 use crate::brackets::copy_types;
 use crate::classes::is_removed;
-use crate::explicit::{Stayed, explicit};
+use crate::explicit::{Retained, explicit};
 use crate::isolates::{Isolates, direct, find_or_keep_matches};
 use crate::sequence_levels::{Brackets, Paragraph, Sequence, Sides, resolve_runs, resolve_types};
 use crate::sequences::direction;
@@ -30,7 +30,7 @@ pub(crate) struct Classified<'a> {
 /// sequences.
 #[derive(Drop)]
 pub(crate) struct Work {
-    stayed: Stayed,
+    retained: Retained,
     brackets: Vec<BracketType>,
     lists: Lists,
 }
@@ -49,7 +49,7 @@ struct Lists {
 impl Work {
     pub fn new(alloc: Global) -> Work {
         Work {
-            stayed: Stayed::new(alloc),
+            retained: Retained::new(alloc),
             brackets: Vec::new(alloc),
             lists: Lists::new(alloc),
         }
@@ -69,30 +69,30 @@ impl Lists {
 
 // Finds the levels of the characters that X9 keeps. If `is_found` is true, `lists` already holds the matches
 // of the isolate initiators.
-fn resolve_stayed(
+fn resolve_retained(
     brackets: &Brackets<'_>,
     base: u8,
-    stayed: &Stayed,
+    retained: &Retained,
     is_found: bool,
     lists: &mut Lists,
 ) -> Result<(), AllocError>
-    requires stayed { HasAll stayed.now }
+    requires retained { HasAll retained.now }
     requires found { is_found ≡ true
-        → lists.old.isolates.found.items ≡ matches_of stayed.now.classes.items }
-    requires brackets { AreFor brackets.now (length stayed.now.levels.items) }
-    ensures { OnOk result (OfAllTexts brackets.now (length stayed.now.levels.items) (λ look text.
-        lists.new.resolved.items ≡ resolved look base text stayed.now.classes.items stayed.now.levels.items
-        stayed.now.types.items)) }
+        → lists.old.isolates.found.items ≡ matches_of retained.now.classes.items }
+    requires brackets { AreFor brackets.now (length retained.now.levels.items) }
+    ensures { OnOk result (OfAllTexts brackets.now (length retained.now.levels.items) (λ look text.
+        lists.new.resolved.items ≡ resolved look base text retained.now.classes.items
+        retained.now.levels.items retained.now.types.items)) }
 {
-    find_or_keep_matches(&stayed.classes, is_found, &mut lists.isolates)?;
+    find_or_keep_matches(&retained.classes, is_found, &mut lists.isolates)?;
     lists.continued.clear();
-    lists.continued.resize(stayed.levels.len(), false)?;
+    lists.continued.resize(retained.levels.len(), false)?;
     lists.resolved.clear();
-    lists.resolved.extend_from_slice(&stayed.levels)?;
+    lists.resolved.extend_from_slice(&retained.levels)?;
     let paragraph = Paragraph {
         brackets: *brackets,
         base,
-        stayed,
+        retained,
         matches: &lists.isolates.found,
     };
     resolve_runs(
@@ -104,13 +104,13 @@ fn resolve_stayed(
 }
 
 // Replaces the contents of `brackets` with the bracket types of the characters that X9 keeps.
-pub(crate) fn stayed_brackets(
+pub(crate) fn retained_brackets(
     all: &[BracketType],
     classes: &[BidiClass],
     brackets: &mut Vec<BracketType>,
 ) -> Result<(), AllocError>
     requires { length all.now ≡ length classes.now }
-    ensures { OnOk result (brackets.new.items ≡ map (bracket_at all.now) (stayed classes.now)) }
+    ensures { OnOk result (brackets.new.items ≡ map (bracket_at all.now) (retained classes.now)) }
 {
     brackets.clear();
     brackets.reserve(all.len())?;
@@ -122,20 +122,20 @@ pub(crate) fn stayed_brackets(
     Ok(())
 }
 
-// Does the same as `stayed_brackets`, but only if the paragraph has any brackets.
-fn any_stayed_brackets(
+// Does the same as `retained_brackets`, but only if the paragraph has any brackets.
+fn any_retained_brackets(
     all: &Brackets<'_>,
     classes: &[BidiClass],
     brackets: &mut Vec<BracketType>,
 ) -> Result<(), AllocError>
     requires { AreFor all.now (length classes.now) }
     ensures { OnOk result (all.now.has_any ≡ true
-        → brackets.new.items ≡ map (bracket_at all.now.types.now) (stayed classes.now)) }
+        → brackets.new.items ≡ map (bracket_at all.now.types.now) (retained classes.now)) }
 {
     if !all.has_any {
         return Ok(());
     }
-    stayed_brackets(all.types, classes, brackets)
+    retained_brackets(all.types, classes, brackets)
 }
 
 // Replaces the contents of `levels` with the levels of all characters. A character that X9 removed gets the
@@ -166,10 +166,10 @@ fn put_back(
 
 // Returns whether the matches are known and X9 removed nothing. If so, the known matches are also those of
 // the kept characters.
-fn are_still_found(is_found: bool, stayed: &[BidiClass], acting: &[BidiClass]) -> bool
-    ensures { result ≡ true → (is_found ≡ true) × (length stayed.now ≡ length acting.now) }
+fn are_still_found(is_found: bool, retained: &[BidiClass], acting: &[BidiClass]) -> bool
+    ensures { result ≡ true → (is_found ≡ true) × (length retained.now ≡ length acting.now) }
 {
-    is_found && stayed.len() == acting.len()
+    is_found && retained.len() == acting.len()
 }
 
 /// Finds the levels of a paragraph (X1 to I2) from its classes, in which each FSI is already replaced by LRI
@@ -189,14 +189,14 @@ pub(crate) fn resolve_acting(
 {
     let acting = paragraph.classes;
     let base = paragraph.base;
-    explicit(acting, base, &mut work.stayed)?;
-    any_stayed_brackets(&paragraph.brackets, acting, &mut work.brackets)?;
-    let is_found = are_still_found(is_found, &work.stayed.classes, acting);
+    explicit(acting, base, &mut work.retained)?;
+    any_retained_brackets(&paragraph.brackets, acting, &mut work.brackets)?;
+    let is_found = are_still_found(is_found, &work.retained.classes, acting);
     let brackets = Brackets {
         types: &work.brackets,
         ..paragraph.brackets
     };
-    resolve_stayed(&brackets, base, &work.stayed, is_found, &mut work.lists)?;
+    resolve_retained(&brackets, base, &work.retained, is_found, &mut work.lists)?;
     put_back(acting, base, &work.lists.resolved, levels)?;
     Ok(())
 }

@@ -6,15 +6,15 @@ ghost use Rattle.bidi.specs.BracketTypes.{bracket_types};
 ghost use Rattle.bidi.specs.Reasons.{explicit_steps, sequence_of, sequences_by, AreReasons};
 ghost use Rattle.bidi.specs.Explicit.{directed};
 ghost use Rattle.bidi.specs.Isolates.{matches_of};
-ghost use Rattle.bidi.specs.Sequences.{stayed};
+ghost use Rattle.bidi.specs.Sequences.{retained};
 
 use crate::base::{Base, base_level_of};
 use crate::bracket_type::{BracketType, bracket_type};
 use crate::classes::is_removed;
-use crate::explicit::{Stayed, explicit};
+use crate::explicit::{Retained, explicit};
 use crate::explicit_steps::{ExplicitStep, explicit_steps};
 use crate::isolates::{Isolates, direct, find_matches};
-use crate::levels::stayed_brackets;
+use crate::levels::retained_brackets;
 use crate::resolver::resolve;
 use crate::sequence_levels::{Brackets, Paragraph};
 use crate::sequence_reasons::{SequenceReasons, all_sequences};
@@ -67,7 +67,7 @@ fn bracket_types(
 
 // Returns the indices of the characters that X9 keeps.
 fn kept_indices(alloc: Global, classes: &[BidiClass]) -> Result<Vec<usize>, AllocError>
-    ensures { IfOk result (λ list. list.items ≡ stayed classes.now) }
+    ensures { IfOk result (λ list. list.items ≡ retained classes.now) }
 {
     let mut list = Vec::new(alloc);
     for k in 0..classes.len() {
@@ -93,19 +93,23 @@ fn sequences_by(
         ≡ bracket_types look text
         → map sequence_of list.items ≡ sequences_by look text classes.now base) }
 {
-    let mut stayed = Stayed::new(alloc);
-    explicit(classes, base, &mut stayed)?;
+    let mut retained = Retained::new(alloc);
+    explicit(classes, base, &mut retained)?;
     let mut kept = Vec::new(alloc);
-    stayed_brackets(kinds, classes, &mut kept)?;
+    retained_brackets(kinds, classes, &mut kept)?;
     let mut isolates = Isolates::new(alloc);
-    find_matches(&stayed.classes, &mut isolates.found, &mut isolates.pending)?;
+    find_matches(
+        &retained.classes,
+        &mut isolates.found,
+        &mut isolates.pending,
+    )?;
     let paragraph = Paragraph {
         brackets: Brackets {
             types: &kept,
             has_any: true,
         },
         base,
-        stayed: &stayed,
+        retained: &retained,
         matches: &isolates.found,
     };
     let list = all_sequences(alloc, &paragraph)?;
@@ -127,7 +131,7 @@ fn with_steps(
     ensures matches { IfOk result (λ reasons. reasons.matches.items ≡ matches_of (directed classes.now)) }
     ensures explicit { IfOk result (λ reasons. reasons.explicit.items
         ≡ explicit_steps base (directed classes.now)) }
-    ensures kept { IfOk result (λ reasons. reasons.kept.items ≡ stayed (directed classes.now)) }
+    ensures kept { IfOk result (λ reasons. reasons.kept.items ≡ retained (directed classes.now)) }
     ensures sequences { IfOk result (λ reasons. (look : ℕ → Option Bracket) (text : List ℕ)
         → kinds.now ≡ bracket_types look text
         → map sequence_of reasons.sequences.items ≡ sequences_by look text (directed classes.now) base) }

@@ -8,12 +8,12 @@ ghost use Rattle.bidi.specs.Levels.{put, sequence_levels};
 ghost use Rattle.bidi.specs.Paragraphs.{AreFor, AreSides, AreSidesBetween, IsReady, OfAllTexts, Takes};
 ghost use Rattle.bidi.specs.Paragraphs.{resolved_by, sequence_in, write_by};
 ghost use Rattle.ucd.specs.Within.{AreWithin};
-ghost use Rattle.bidi.specs.Runs.{IsRunEnd, marked};
+ghost use Rattle.bidi.specs.Runs.{IsRunEnd, flagged};
 ghost use Rattle.bidi.specs.WeakTable.{is_side};
 
 use crate::bracket_type::BracketType;
 use crate::brackets::{Pairs, copy_types};
-use crate::explicit::Stayed;
+use crate::explicit::Retained;
 use crate::neutral::resolve_neutral;
 use crate::sequences::{direction, eos, gather, next_run, run_end, sos};
 use crate::weak::resolve_weak;
@@ -33,7 +33,7 @@ pub(crate) struct Brackets<'a> {
 pub(crate) struct Paragraph<'a> {
     pub brackets: Brackets<'a>,
     pub base: u8,
-    pub stayed: &'a Stayed,
+    pub retained: &'a Retained,
     pub matches: &'a [usize],
 }
 
@@ -48,7 +48,7 @@ pub(crate) struct Sides {
 pub(crate) fn sides_of(paragraph: &Paragraph<'_>, places: &[usize]) -> Sides
     requires paragraph { IsReady paragraph.now }
     requires some { 0 < length places.now }
-    requires within { AreWithin (length paragraph.now.stayed.now.levels.items) places.now }
+    requires within { AreWithin (length paragraph.now.retained.now.levels.items) places.now }
     ensures sides { AreSides paragraph.now places.now result }
     ensures bounded { result.level ≤ 125 }
     ensures side { is_side result.sos ≡ true }
@@ -61,14 +61,14 @@ pub(crate) fn sides_of(paragraph: &Paragraph<'_>, places: &[usize]) -> Sides
 // Returns the level, sos and eos of a sequence whose first and last characters are at these indices.
 fn sides_between(paragraph: &Paragraph<'_>, first: usize, last: usize) -> Sides
     requires paragraph { IsReady paragraph.now }
-    requires first { first < length paragraph.now.stayed.now.levels.items }
-    requires last { last < length paragraph.now.stayed.now.levels.items }
+    requires first { first < length paragraph.now.retained.now.levels.items }
+    requires last { last < length paragraph.now.retained.now.levels.items }
     ensures sides { AreSidesBetween paragraph.now first last result }
     ensures bounded { result.level ≤ 125 }
     ensures side { is_side result.sos ≡ true }
 {
-    let levels = paragraph.stayed.levels.as_slice();
-    let classes = paragraph.stayed.classes.as_slice();
+    let levels = paragraph.retained.levels.as_slice();
+    let classes = paragraph.retained.classes.as_slice();
     Sides {
         level: levels[first],
         sos: sos(levels, paragraph.base, first),
@@ -209,19 +209,19 @@ impl Sequence {
     // `start`.
     fn take(&mut self, paragraph: &Paragraph<'_>, start: usize) -> Result<(), AllocError>
         requires paragraph { IsReady paragraph.now }
-        requires within { start < length paragraph.now.stayed.now.levels.items }
+        requires within { start < length paragraph.now.retained.now.levels.items }
         ensures { OnOk result (Takes paragraph.now start self.new) }
     {
-        let stayed = paragraph.stayed;
+        let retained = paragraph.retained;
         gather(
-            &stayed.classes,
-            &stayed.levels,
+            &retained.classes,
+            &retained.levels,
             paragraph.matches,
             start,
             &mut self.places,
         )?;
         fill_any_brackets(&paragraph.brackets, &self.places, &mut self.brackets)?;
-        fill_types(&stayed.types, &self.places, &mut self.explicit)?;
+        fill_types(&retained.types, &self.places, &mut self.explicit)?;
         copy_types(&self.explicit, &mut self.types)
     }
 
@@ -235,14 +235,14 @@ impl Sequence {
         resolved: &mut [u8],
     ) -> Result<(), AllocError>
         requires paragraph { IsReady paragraph.now }
-        requires run { (start < end) × (end ≤ length paragraph.now.stayed.now.levels.items) }
+        requires run { (start < end) × (end ≤ length paragraph.now.retained.now.levels.items) }
         requires alone { sequence_in paragraph.now start ≡ range_with_len start (end - start) }
-        requires resolved { length resolved.old ≡ length paragraph.now.stayed.now.levels.items }
+        requires resolved { length resolved.old ≡ length paragraph.now.retained.now.levels.items }
         ensures { OnOk result (OfAllTexts paragraph.now.brackets
-            (length paragraph.now.stayed.now.levels.items) (λ look text.
+            (length paragraph.now.retained.now.levels.items) (λ look text.
             resolved.new ≡ write_by look text paragraph.now resolved.old start)) }
     {
-        let explicit = &paragraph.stayed.types[start..end];
+        let explicit = &paragraph.retained.types[start..end];
         copy_types(explicit, &mut self.types)?;
         let brackets = part(&paragraph.brackets, start, end);
         resolve_types(
@@ -265,13 +265,13 @@ impl Sequence {
         resolved: &mut [u8],
     ) -> Result<(), AllocError>
         requires paragraph { IsReady paragraph.now }
-        requires run { IsRunEnd paragraph.now.stayed.now.levels.items start end }
-        requires resolved { length resolved.old ≡ length paragraph.now.stayed.now.levels.items }
+        requires run { IsRunEnd paragraph.now.retained.now.levels.items start end }
+        requires resolved { length resolved.old ≡ length paragraph.now.retained.now.levels.items }
         ensures { OnOk result (OfAllTexts paragraph.now.brackets
-            (length paragraph.now.stayed.now.levels.items) (λ look text.
+            (length paragraph.now.retained.now.levels.items) (λ look text.
             resolved.new ≡ write_by look text paragraph.now resolved.old start)) }
     {
-        match next_run(&paragraph.stayed.levels, paragraph.matches, end) {
+        match next_run(&paragraph.retained.levels, paragraph.matches, end) {
             Some(_) => self.resolve_gathered(paragraph, start, resolved),
             None => self.resolve_run(paragraph, start, end, resolved),
         }
@@ -285,10 +285,10 @@ impl Sequence {
         resolved: &mut [u8],
     ) -> Result<(), AllocError>
         requires paragraph { IsReady paragraph.now }
-        requires within { start < length paragraph.now.stayed.now.levels.items }
-        requires resolved { length resolved.old ≡ length paragraph.now.stayed.now.levels.items }
+        requires within { start < length paragraph.now.retained.now.levels.items }
+        requires resolved { length resolved.old ≡ length paragraph.now.retained.now.levels.items }
         ensures { OnOk result (OfAllTexts paragraph.now.brackets
-            (length paragraph.now.stayed.now.levels.items) (λ look text.
+            (length paragraph.now.retained.now.levels.items) (λ look text.
             resolved.new ≡ write_by look text paragraph.now resolved.old start)) }
     {
         self.take(paragraph, start)?;
@@ -313,9 +313,9 @@ impl Sequence {
 
 // Sets the flag at `next`, where a run that continues an earlier run starts. Does nothing if `next` is
 // `None`.
-pub(crate) fn mark(continued: &mut [bool], next: Option<usize>)
+pub(crate) fn set_flag(continued: &mut [bool], next: Option<usize>)
     requires { IfSome next (λ place. place < length continued.old) }
-    ensures { continued.new ≡ marked continued.old next }
+    ensures { continued.new ≡ flagged continued.old next }
 {
     if let Some(next) = next {
         continued[next] = true;
@@ -330,12 +330,12 @@ pub(crate) fn resolve_runs(
     done: &mut [u8],
 ) -> Result<(), AllocError>
     requires paragraph { IsReady paragraph.now }
-    requires continued { continued.old ≡ replicate (length paragraph.now.stayed.now.levels.items) false }
-    requires done { done.old ≡ paragraph.now.stayed.now.levels.items }
-    ensures { OnOk result (OfAllTexts paragraph.now.brackets (length paragraph.now.stayed.now.levels.items)
+    requires continued { continued.old ≡ replicate (length paragraph.now.retained.now.levels.items) false }
+    requires done { done.old ≡ paragraph.now.retained.now.levels.items }
+    ensures { OnOk result (OfAllTexts paragraph.now.brackets (length paragraph.now.retained.now.levels.items)
         (λ look text. done.new ≡ resolved_by look text paragraph.now)) }
 {
-    let levels = paragraph.stayed.levels.as_slice();
+    let levels = paragraph.retained.levels.as_slice();
     let mut start = 0;
     while start < levels.len() {
         let end = run_end(levels, start);
@@ -343,7 +343,7 @@ pub(crate) fn resolve_runs(
         if !continued[start] {
             sequence.resolve(paragraph, start, end, done)?;
         }
-        mark(continued, next_run(levels, paragraph.matches, end));
+        set_flag(continued, next_run(levels, paragraph.matches, end));
         start = end;
     }
     Ok(())

@@ -32,18 +32,18 @@ fn sequence_at(
 ) -> Result<SequenceReasons, AllocError>
     requires paragraph { IsReady paragraph.now }
     requires any { paragraph.now.brackets.has_any ≡ true }
-    requires within { start < length paragraph.now.stayed.now.levels.items }
+    requires within { start < length paragraph.now.retained.now.levels.items }
     ensures { IfOk result (λ found. OfAllTexts paragraph.now.brackets
-        (length paragraph.now.stayed.now.levels.items)
+        (length paragraph.now.retained.now.levels.items)
         (λ look text. sequence_of found ≡ sequence_reasons look paragraph.now.base text
-        paragraph.now.stayed.now.classes.items paragraph.now.stayed.now.levels.items
-        paragraph.now.stayed.now.types.items (sequence_in paragraph.now start))) }
+        paragraph.now.retained.now.classes.items paragraph.now.retained.now.levels.items
+        paragraph.now.retained.now.types.items (sequence_in paragraph.now start))) }
 {
-    let stayed = paragraph.stayed;
+    let retained = paragraph.retained;
     let mut places = Vec::new(alloc);
     gather(
-        &stayed.classes,
-        &stayed.levels,
+        &retained.classes,
+        &retained.levels,
         paragraph.matches,
         start,
         &mut places,
@@ -51,7 +51,7 @@ fn sequence_at(
     let mut kinds = Vec::new(alloc);
     fill_brackets(paragraph.brackets.types, &places, &mut kinds)?;
     let mut types = Vec::new(alloc);
-    fill_types(&stayed.types, &places, &mut types)?;
+    fill_types(&retained.types, &places, &mut types)?;
     let sides = sides_of(paragraph, &places);
     let steps = sequence_steps(alloc, &kinds, sides, &types)?;
     Ok(SequenceReasons {
@@ -71,12 +71,12 @@ fn sequences_at(
 ) -> Result<Vec<SequenceReasons>, AllocError>
     requires paragraph { IsReady paragraph.now }
     requires any { paragraph.now.brackets.has_any ≡ true }
-    requires within { AreWithin (length paragraph.now.stayed.now.levels.items) starts.now }
+    requires within { AreWithin (length paragraph.now.retained.now.levels.items) starts.now }
     ensures { IfOk result (λ list. OfAllTexts paragraph.now.brackets
-        (length paragraph.now.stayed.now.levels.items)
+        (length paragraph.now.retained.now.levels.items)
         (λ look text. map sequence_of list.items ≡ map (λ start. sequence_reasons look paragraph.now.base text
-        paragraph.now.stayed.now.classes.items paragraph.now.stayed.now.levels.items
-        paragraph.now.stayed.now.types.items (sequence_in paragraph.now start)) starts.now)) }
+        paragraph.now.retained.now.classes.items paragraph.now.retained.now.levels.items
+        paragraph.now.retained.now.types.items (sequence_in paragraph.now start)) starts.now)) }
 {
     let mut list = Vec::new(alloc);
     for k in 0..starts.len() {
@@ -94,13 +94,18 @@ pub(crate) fn all_sequences(
     requires paragraph { IsReady paragraph.now }
     requires any { paragraph.now.brackets.has_any ≡ true }
     ensures { IfOk result (λ list. OfAllTexts paragraph.now.brackets
-        (length paragraph.now.stayed.now.levels.items)
+        (length paragraph.now.retained.now.levels.items)
         (λ look text. map sequence_of list.items ≡ all_sequences look paragraph.now.base text
-        paragraph.now.stayed.now.classes.items paragraph.now.stayed.now.levels.items
-        paragraph.now.stayed.now.types.items)) }
+        paragraph.now.retained.now.classes.items paragraph.now.retained.now.levels.items
+        paragraph.now.retained.now.types.items)) }
 {
-    let stayed = paragraph.stayed;
-    let starts = sequence_starts(alloc, &stayed.classes, &stayed.levels, paragraph.matches)?;
+    let retained = paragraph.retained;
+    let starts = sequence_starts(
+        alloc,
+        &retained.classes,
+        &retained.levels,
+        paragraph.matches,
+    )?;
     let list = sequences_at(alloc, paragraph, &starts)?;
     Ok(list)
 }

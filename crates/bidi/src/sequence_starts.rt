@@ -6,7 +6,7 @@ ghost use Rattle.bidi.specs.Runs.{sequence_at};
 ghost use Rattle.bidi.specs.Sequences.{sequences};
 ghost use Rattle.ucd.specs.Within.{AreWithin};
 
-use crate::sequence_levels::mark;
+use crate::sequence_levels::set_flag;
 use crate::sequences::{next_run, run_end};
 use std::alloc::{AllocError, Global};
 use ucd::BidiClass;
@@ -36,7 +36,7 @@ fn push_starts(
         if !continued[start] {
             starts.push(start)?;
         }
-        mark(continued, next_run(levels, matches, end));
+        set_flag(continued, next_run(levels, matches, end));
         start = end;
     }
     Ok(())

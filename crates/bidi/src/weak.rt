@@ -4,7 +4,7 @@ ghost use Rattle.std.specs.Prelude.{length, take, drop, replicate, slice_index_o
 ghost use Rattle.std.specs.List.{list_all};
 ghost use Rattle.ucd.specs.declared.bidi_class.BidiClass.{BidiClass};
 ghost use Rattle.bidi.specs.Waiting.{mark_type};
-ghost use Rattle.ucd.specs.Classes.{is_mark, is_strong};
+ghost use Rattle.ucd.specs.Classes.{is_nonspacing_mark, is_strong};
 ghost use Rattle.bidi.specs.Weak.{is_left, mark_after, w3_type, weak};
 ghost use Rattle.bidi.specs.WeakState.{IsState, Reads};
 ghost use Rattle.bidi.specs.WeakTable.{is_side, is_simple, strong_after, strong_at};
@@ -184,7 +184,7 @@ fn act(types: &mut [BidiClass], start: usize, at: usize, done: u16, value: BidiC
 // it to `class` unless `class` is NSM.
 pub(crate) fn mark_type(before: &mut BidiClass, class: BidiClass) -> BidiClass
     ensures marked { result ≡ mark_type before.old class }
-    ensures before { before.new ≡ (if not (is_mark class) then class else before.old) }
+    ensures before { before.new ≡ (if not (is_nonspacing_mark class) then class else before.old) }
 {
     match class {
         BidiClass::NSM => mark_after(*before),
@@ -201,8 +201,8 @@ pub(crate) fn is_left(class: BidiClass) -> bool
     matches!(class, BidiClass::L)
 }
 
-// Returns the type of a mark after a given type (W1). Marks are rare, so a separate function keeps their code
-// out of the loop.
+// Returns the type of a nonspacing mark after a given type (W1). These are rare, so a separate function keeps
+// their code out of the loop.
 #[cold]
 #[inline(never)]
 fn mark_after(before: BidiClass) -> BidiClass

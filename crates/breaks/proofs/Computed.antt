@@ -7,10 +7,10 @@ use Rattle.ucd.specs.declared.line_class.LineClass.{LineClass}
 use Rattle.ucd.specs.declared.line_detail.LineDetail.{LineDetail}
 use Rattle.ucd.specs.declared.version.Version.TheVariants.{V15_0}
 use Rattle.ucd.specs.declared.line_class.LineClass.TheVariants.{CM, NU, OP, XX, ZWJ}
-use Rattle.breaks.specs.Bases.{Base, Character, alone}
+use Rattle.breaks.specs.Bases.{BaseCharacter, Character, alone}
 use Rattle.breaks.specs.Classes.{is_detail, is_same, is_one_of}
 use Rattle.breaks.specs.Rules.{rows_before_numbers, rows_of_numbers, rows_after_numbers, is}
-use Rattle.breaks.specs.Symbols.{character_in, narrow, shown, symbols, told}
+use Rattle.breaks.specs.Symbols.{character_in, narrow, shown, symbols, as_read}
 use Rattle.breaks.specs.Walk.{base, bases_at, unattached, answers, carried, decided_at, mark_of, rows, states}
 use Rattle.breaks.specs.declared.mark.Mark.{Mark}
 use Rattle.breaks.specs.declared.mark.Mark.TheVariants.{Never, May, Must}
@@ -31,7 +31,7 @@ marks_by_row whole_numbers = map (λ row. row.mark) (rows whole_numbers)
 
 -- the bases after a position: a base that begins with c, then a base of class NU or nothing; then the results of all
 -- conditions on these bases
-abbrev pub bases_after : Character → Bool → List Base
+abbrev pub bases_after : Character → Bool → List BaseCharacter
 bases_after c true = alone c ∷ base NU ∷ []
 bases_after c false = alone c ∷ []
 
@@ -178,7 +178,7 @@ character_with class detail is_wide is_future_pictograph = record { class = clas
 abbrev pub is_character : Character → Character → Bool
 is_character c d = is_same c.class d.class && (is_detail c.detail d.detail && (same c.is_wide d.is_wide && same c.is_future_pictograph d.is_future_pictograph))
 
-pub symbols_are_right : all_below 448 (λ index. is_character (shown (get_or SYMBOLS index 0)) (told (character_in V15_0 (line_answers_at index)))) ≡ true
+pub symbols_are_right : all_below 448 (λ index. is_character (shown (get_or SYMBOLS index 0)) (as_read (character_in V15_0 (line_answers_at index)))) ≡ true
 symbols_are_right = refl
 
 pub symbols_are_within : list_all (λ entry. nat_lt entry SYMBOL_COUNT) SYMBOLS ≡ true

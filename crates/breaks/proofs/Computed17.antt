@@ -6,10 +6,10 @@ use Rattle.ucd.specs.Answers.{line_answers_at}
 use Rattle.ucd.specs.declared.line_class.LineClass.{LineClass}
 use Rattle.ucd.specs.declared.line_class.LineClass.TheVariants.{AK, AL, AS, CM, CP, IS, NU, OP, QU, SP, VF, XX, ZWJ}
 use Rattle.ucd.specs.declared.version.Version.TheVariants.{V17_0}
-use Rattle.breaks.specs.Bases.{Base, Character, alone, class_of, is_east_asian}
+use Rattle.breaks.specs.Bases.{BaseCharacter, Character, alone, class_of, is_east_asian}
 use Rattle.breaks.specs.Classes.{is_same, is_one_of}
 use Rattle.breaks.specs.Rules.{rows_before_numbers, rows_of_numbers, rows_after_numbers, after_final, is, is_dotted_circle}
-use Rattle.breaks.specs.Symbols.{character_in, narrow, shown_17, symbols_17, told_17, wide}
+use Rattle.breaks.specs.Symbols.{character_in, narrow, shown_17, symbols_17, as_read_17, wide}
 use Rattle.breaks.specs.Walk.{base, unattached}
 use Rattle.breaks.specs.Walk17.{Bits, answered_17, answers_17, bases_at_17, by_width, carried_17, decided_17, mark_of_17, marks_17, rows_17, states_17}
 use Rattle.breaks.specs.declared.mark.Mark.{Mark}
@@ -31,19 +31,19 @@ abbrev pub marks_by_row_17 : List Mark
 marks_by_row_17 = map (λ row. row.mark) rows_17
 
 -- the results of all conditions on the bases after a position: a base that begins with c, and others
-abbrev pub answers_after_17 : Character → List Base → List Bool
+abbrev pub answers_after_17 : Character → List BaseCharacter → List Bool
 answers_after_17 c rest = map (λ row. row.after (alone c ∷ rest)) rows_17
 
 -- Examples of the bases after the next one: none, and one of each kind that the rules distinguish, narrow and wide.
 -- The kinds are NU, IS before NU, other bases of LB15b, VF, and all others.
-abbrev pub rests : List (List Base)
+abbrev pub rests : List (List BaseCharacter)
 rests =
     [] ∷
     (base NU ∷ []) ∷ (base IS ∷ base NU ∷ []) ∷ (base SP ∷ []) ∷ (base VF ∷ []) ∷ (base AL ∷ []) ∷
     (alone (wide NU) ∷ []) ∷ (alone (wide IS) ∷ base NU ∷ []) ∷ (alone (wide SP) ∷ []) ∷ (alone (wide VF) ∷ []) ∷ (alone (wide AL) ∷ []) ∷
     []
 
-abbrev pub rest_at : ℕ → List Base
+abbrev pub rest_at : ℕ → List BaseCharacter
 rest_at kind = get_or rests kind []
 
 abbrev class_kind : Bool → LineClass → ℕ
@@ -55,7 +55,7 @@ class_kind before_digit class = if is_one_of after_final class then 3 else 5
 abbrev pub kind_of : Bool → Bool → LineClass → ℕ
 kind_of is_wide before_digit class = (if is_wide then 5 else 0) + class_kind before_digit class
 
-abbrev pub kind : List Base → ℕ
+abbrev pub kind : List BaseCharacter → ℕ
 kind [] = 0
 kind (b ∷ bases) = kind_of (is_east_asian b) (is (NU ∷ []) bases) (class_of b)
 
@@ -255,7 +255,7 @@ rows_are_within_17 = refl
 pub outcomes_are_within_17 : list_all (λ entry. nat_lt entry OUTCOME_COUNT) OUTCOMES ≡ true
 outcomes_are_within_17 = refl
 
-pub symbols_are_right_17 : all_below 448 (λ index. is_character (shown_17 (get_or SYMBOLS index 0)) (told_17 (character_in V17_0 (line_answers_at index)))) ≡ true
+pub symbols_are_right_17 : all_below 448 (λ index. is_character (shown_17 (get_or SYMBOLS index 0)) (as_read_17 (character_in V17_0 (line_answers_at index)))) ≡ true
 symbols_are_right_17 = refl
 
 pub symbols_are_within_17 : list_all (λ entry. nat_lt entry SYMBOL_COUNT) SYMBOLS ≡ true
@@ -270,7 +270,7 @@ attached_are_last_17 = refl
 -- ---- the answers
 
 -- a base of class NU, or nothing
-abbrev pub digit_or_none : Bool → List Base
+abbrev pub digit_or_none : Bool → List BaseCharacter
 digit_or_none true = base NU ∷ []
 digit_or_none false = []
 

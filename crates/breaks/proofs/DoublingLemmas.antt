@@ -7,7 +7,7 @@ use Rattle.ucd.specs.declared.line_class.LineClass.{LineClass}
 use Rattle.ucd.specs.declared.line_class.LineClass.TheVariants.{BK, CM, CR, LF, NL, SP, ZW, ZWJ}
 use Rattle.ucd.specs.declared.version.Version.{Version}
 use Rattle.ucd.specs.declared.version.Version.TheVariants.{V15_0, V17_0}
-use Rattle.breaks.specs.Bases.{Base, Character, alone, bases_of, character, end_of, stays_with}
+use Rattle.breaks.specs.Bases.{BaseCharacter, Character, alone, bases_of, character, end_of, stays_with}
 use Rattle.breaks.specs.Classes.{is_one_of}
 use Rattle.breaks.specs.Doubling.{DoublingKeepsMarks, can_be_doubled, mark_between}
 use Rattle.breaks.specs.Marks.{marks_after, marks_of}
@@ -38,23 +38,23 @@ bases_before (a ∷ b ∷ before) c text free =
 
 -- ---- the recursion over the characters, one step at a time
 
-walk_stays : (rs : List Rule) (others : List Base) (last : Base) (c : Character) (text : List Character) → stays_with (end_of last) c ≡ true
+walk_stays : (rs : List Rule) (others : List BaseCharacter) (last : BaseCharacter) (c : Character) (text : List Character) → stays_with (end_of last) c ≡ true
     → walk rs others last (c ∷ text) ≡ Never ∷ walk rs others (with_attached last c) text
 walk_stays rs others last c text stays = rw stays refl
 
-walk_begins : (rs : List Rule) (others : List Base) (last : Base) (c : Character) (text : List Character) → stays_with (end_of last) c ≡ false
+walk_begins : (rs : List Rule) (others : List BaseCharacter) (last : BaseCharacter) (c : Character) (text : List Character) → stays_with (end_of last) c ≡ false
     → walk rs others last (c ∷ text) ≡ mark_by rs (last ∷ others) (bases_of (c ∷ text)) ∷ walk rs (last ∷ others) (alone c) text
 walk_begins rs others last c text begins = rw begins refl
 
 -- ---- a text with a doubled character
 
-module _ (v : Version) (whole_numbers : Bool) (Like : List Base → List Base → Type 0) (c : Character) (mark : Mark)
+module _ (v : Version) (whole_numbers : Bool) (Like : List BaseCharacter → List BaseCharacter → Type 0) (c : Character) (mark : Mark)
     (free : is_one_of (CM ∷ ZWJ ∷ []) c.class ≡ false) (doubles : Doubles (rules v whole_numbers) Like c mark) (after : List Character) where
   abbrev rs : List Rule
   rs = rules v whole_numbers
 
   -- the marks are the same after bases that the rules do not distinguish
-  like_marks : (p q rest : List Base) → Like p q → marks_after rs p rest ≡ marks_after rs q rest
+  like_marks : (p q rest : List BaseCharacter) → Like p q → marks_after rs p rest ≡ marks_after rs q rest
   like_marks p q [] like = refl
   like_marks p q (b ∷ rest) like = rw (doubles.like_mark b p q rest like, like_marks (b ∷ p) (b ∷ q) rest (doubles.like_more b p q like)) refl
 
@@ -62,7 +62,7 @@ module _ (v : Version) (whole_numbers : Bool) (Like : List Base → List Base �
   attached : List Character
   attached = (first_base c after).0
 
-  others_after : List Base
+  others_after : List BaseCharacter
   others_after = (first_base c after).1
 
   once : bases_of (c ∷ after) ≡ begun_by c attached ∷ others_after
@@ -73,7 +73,7 @@ module _ (v : Version) (whole_numbers : Bool) (Like : List Base → List Base �
   twice = rw (begins_alone c c free) (ap (λ bases. alone c ∷ bases) once)
 
   -- doubling c does not change the marks before c
-  same_ahead : (last : Base) (others : List Base) (front : List Character)
+  same_ahead : (last : BaseCharacter) (others : List BaseCharacter) (front : List Character)
       → mark_by rs (last ∷ others) (bases_of (front ++ c ∷ c ∷ after)) ≡ mark_by rs (last ∷ others) (bases_of (front ++ c ∷ after))
   same_ahead last others front =
       ap (mark_by rs (last ∷ others)) (bases_before front c (c ∷ after) free ∙ ap (λ bases. bases_of front ++ bases) twice)
@@ -81,28 +81,28 @@ module _ (v : Version) (whole_numbers : Bool) (Like : List Base → List Base �
       ∙ sym (ap (mark_by rs (last ∷ others)) (bases_before front c after free ∙ ap (λ bases. bases_of front ++ bases) once))
 
   -- the mark between the two characters is `mark`
-  mark_inside : (others : List Base) → mark_by rs (alone c ∷ others) (bases_of (c ∷ after)) ≡ mark
+  mark_inside : (others : List BaseCharacter) → mark_by rs (alone c ∷ others) (bases_of (c ∷ after)) ≡ mark
   mark_inside others = ap (mark_by rs (alone c ∷ others)) once ∙ doubles.between attached others others_after
 
   -- the marks after the second c are the same as after a single c
-  from_base : (others : List Base) → marks_after rs (alone c ∷ others) (begun_by c attached ∷ others_after) ≡ marks_after rs others (begun_by c attached ∷ others_after)
+  from_base : (others : List BaseCharacter) → marks_after rs (alone c ∷ others) (begun_by c attached ∷ others_after) ≡ marks_after rs others (begun_by c attached ∷ others_after)
   from_base others =
       rw (
         doubles.here attached others others_after,
         like_marks (begun_by c attached ∷ alone c ∷ others) (begun_by c attached ∷ others) others_after (doubles.like attached others),
       ) refl
 
-  same_after : (others : List Base) → walk rs (alone c ∷ others) (alone c) after ≡ walk rs others (alone c) after
+  same_after : (others : List BaseCharacter) → walk rs (alone c ∷ others) (alone c) after ≡ walk rs others (alone c) after
   same_after others =
       walk_from v whole_numbers (alone c ∷ others) c after ∙ ap (marks_after rs (alone c ∷ others)) once
       ∙ from_base others
       ∙ sym (walk_from v whole_numbers others c after ∙ ap (marks_after rs others) once)
 
-  from_second : (others : List Base) → walk rs others (alone c) (c ∷ after) ≡ mark ∷ walk rs others (alone c) after
+  from_second : (others : List BaseCharacter) → walk rs others (alone c) (c ∷ after) ≡ mark ∷ walk rs others (alone c) after
   from_second others =
       walk_begins rs others (alone c) c after (begins_alone c c free) ∙ cons _ _ _ _ (mark_inside others) (same_after others)
 
-  marks_from : (before : List Character) (others : List Base) (last : Base)
+  marks_from : (before : List Character) (others : List BaseCharacter) (last : BaseCharacter)
       → walk rs others last (before ++ c ∷ c ∷ after) ≡ insert (walk rs others last (before ++ c ∷ after)) (suc (length before)) mark
   marks_from [] others last =
       walk_begins rs others last c (c ∷ after) (begins_alone (end_of last) c free)

@@ -2,7 +2,7 @@
 use Rattle.std.proofs.Common.{◌≡◌, ℕ, ◌+◌, ◌-◌, ◌<◌, ◌≤◌, ◌&&◌, ◌||◌, not, Some, suc, length, get_or, arith, Bool, true, false, List, [], ◌∷◌, ◌++◌, drop, map, take, refl, sym, ap, ap₂, ◌∙◌}
 use Rattle.std.specs.Prelude.{if◌then◌else◌}
 use Rattle.std.proofs.lemmas.List.{append_assoc, drop-map, length-map, map-append, take-map}
-use Rattle.breaks.specs.Bases.{Base, Character, alone, bases_of, class_of, joined, last_of, stays_with}
+use Rattle.breaks.specs.Bases.{BaseCharacter, Character, alone, bases_of, class_of, joined, last_of, stays_with}
 use Rattle.breaks.specs.Classes.{is_one_of, is_same}
 use Rattle.breaks.specs.Numbers.{middle}
 use Rattle.breaks.specs.Reasons.{chars_in, start_of}
@@ -11,11 +11,11 @@ use Rattle.breaks.specs.Seen.{attached_len, base_in, character_in, rest}
 use Rattle.breaks.specs.Walk.{ends_in_digits}
 use Rattle.ucd.specs.declared.line_class.LineClass.TheVariants.{IS, NU, RI, SP, SY}
 use Rattle.breaks.proofs.StepLemmas.{odd_after}
-use Rattle.breaks.specs.declared.bases.Base.{Base as Found}
+use Rattle.breaks.specs.declared.bases.BaseCharacter.{BaseCharacter as Found}
 use Rattle.breaks.specs.declared.bases.Character.{Character as Looked}
 
 -- the base of c and the first n characters of a text, followed by the bases of the remaining text
-abbrev parted : Character → List Character → ℕ → List Base
+abbrev parted : Character → List Character → ℕ → List BaseCharacter
 parted c text n = record { first = c; attached = take n text } ∷ bases_of (drop n text)
 
 bases_from : (c : Character) (text : List Character) → bases_of (c ∷ text) ≡ parted c text (attached_len c text)
@@ -39,7 +39,7 @@ found_more done b rest n is attached =
     ap (λ l. l ++ bases_of (map character_in (drop n rest))) (map-append base_in done (b ∷ []))
     ∙ append_assoc (map base_in done) (base_in b ∷ []) (bases_of (map character_in (drop n rest)))
     ∙ ap (λ l. map base_in done ++ l)
-    (ap₂ (λ (a more : List Character). let found : Base = record { first = c; attached = a } in found ∷ bases_of more)
+    (ap₂ (λ (a more : List Character). let found : BaseCharacter = record { first = c; attached = a } in found ∷ bases_of more)
     (ap (map character_in) attached ∙ sym (take-map character_in n rest)) (sym (drop-map character_in n rest))
     ∙ ap (parted c text) is
     ∙ sym (bases_from c text))
@@ -55,8 +55,8 @@ last_found c (a ∷ b ∷ attached) d some =
 
 -- ---- the bases before the next position: the base b, and the bases in `found`
 
-module _ (all : List Found) (b : Base) (found : List Found) (more : map base_in all ≡ b ∷ map base_in found) where
-  abbrev bases : List Base
+module _ (all : List Found) (b : BaseCharacter) (found : List Found) (more : map base_in all ≡ b ∷ map base_in found) where
+  abbrev bases : List BaseCharacter
   bases = map base_in found
 
   without : (space : Bool) → is_same (class_of b) SP ≡ space → without_spaces (map base_in all) ≡ (if space then without_spaces bases else b ∷ bases)

@@ -4,9 +4,9 @@ use Rattle.std.proofs.lemmas.Bool.{cases_Bool}
 use Rattle.ucd.specs.declared.line_class.LineClass.TheVariants.{CM, ZWJ}
 use Rattle.ucd.specs.declared.properties.Properties.{Properties}
 use Rattle.ucd.specs.declared.version.Version.TheVariants.{V17_0}
-use Rattle.breaks.specs.Bases.{Base, Character, alone, is_east_asian}
+use Rattle.breaks.specs.Bases.{BaseCharacter, Character, alone, is_east_asian}
 use Rattle.breaks.specs.Classes.{is_same, is_one_of}
-use Rattle.breaks.specs.Symbols.{character_by, shown_17, told_17}
+use Rattle.breaks.specs.Symbols.{character_by, shown_17, as_read_17}
 use Rattle.breaks.specs.Walk17.{Stands17, narrow_walk, decided_17, decided_narrow, is_narrow_17, narrow_bits}
 use Rattle.breaks.specs.declared.entries_17.TheConstants.{NEXT_ROWS, OUTCOMES}
 use Rattle.breaks.specs.declared.symbol_17.TheConstants.{JOINER, SYMBOL_COUNT}
@@ -35,13 +35,13 @@ narrow_parts p h =
     let flags : (not p.is_future_pictograph ≡ true) × (not p.is_wide ≡ true) = both _ _ parts.1 in
     record { no_joiner = not_true _ parts.0; no_pictograph = not_true _ flags.0; no_width = not_true _ flags.1 }
 
-unjoined : (symbol : ℕ) (p : Properties) → symbol < SYMBOL_COUNT → shown_17 symbol ≡ told_17 (character_by V17_0 p) → IsNarrow p → (symbol == JOINER) ≡ false
+unjoined : (symbol : ℕ) (p : Properties) → symbol < SYMBOL_COUNT → shown_17 symbol ≡ as_read_17 (character_by V17_0 p) → IsNarrow p → (symbol == JOINER) ≡ false
 unjoined symbol p lt shows is = is_joiner_17 symbol lt ∙ ap (λ d. is_same d.class ZWJ) shows ∙ is.no_joiner
 
 narrow_base : (p : Properties) → IsNarrow p → is_east_asian (alone (character_by V17_0 p)) ≡ false
 narrow_base p is = ap (λ w. w && not (is_one_of (CM ∷ ZWJ ∷ []) (character_by V17_0 p).class)) is.no_width
 
-pub starts_narrow : (symbol next_row : ℕ) (p : Properties) → symbol < SYMBOL_COUNT → shown_17 symbol ≡ told_17 (character_by V17_0 p)
+pub starts_narrow : (symbol next_row : ℕ) (p : Properties) → symbol < SYMBOL_COUNT → shown_17 symbol ≡ as_read_17 (character_by V17_0 p)
     → next_row ≡ get_or NEXT_ROWS (0 + symbol) 0 → is_narrow_17 p ≡ true → Stands17 (narrow_walk next_row) (alone (character_by V17_0 p)) []
 starts_narrow symbol next_row p lt shows reads h =
     let c : Character = character_by V17_0 p in
@@ -49,15 +49,15 @@ starts_narrow symbol next_row p lt shows reads h =
     subst (λ a. Stands17 (record (narrow_walk next_row) { is_joined = a }) (alone c) []) (unjoined symbol p lt shows is)
     (starts_17 symbol next_row false false c lt shows reads (sym is.no_pictograph) (sym (narrow_base p is)))
 
-pub narrow_by : (symbol : ℕ) (p : Properties) (joiner pictograph wide : Bool) → symbol < SYMBOL_COUNT → shown_17 symbol ≡ told_17 (character_by V17_0 p)
+pub narrow_by : (symbol : ℕ) (p : Properties) (joiner pictograph wide : Bool) → symbol < SYMBOL_COUNT → shown_17 symbol ≡ as_read_17 (character_by V17_0 p)
     → joiner ≡ (symbol == JOINER) → pictograph ≡ p.is_future_pictograph → wide ≡ p.is_wide
     → (not joiner && (not pictograph && not wide)) ≡ is_narrow_17 p
 narrow_by symbol p joiner pictograph wide lt shows joined is width =
     rw (joined ∙ is_joiner_17 symbol lt ∙ ap (λ d. is_same d.class ZWJ) shows, is, width) refl
 
-pub passes_narrow : (row symbol next_row outcome : ℕ) (p : Properties) → symbol < SYMBOL_COUNT → shown_17 symbol ≡ told_17 (character_by V17_0 p)
+pub passes_narrow : (row symbol next_row outcome : ℕ) (p : Properties) → symbol < SYMBOL_COUNT → shown_17 symbol ≡ as_read_17 (character_by V17_0 p)
     → next_row ≡ get_or NEXT_ROWS (row + symbol) 0 → outcome ≡ get_or OUTCOMES (row + symbol) 0 → is_narrow_17 p ≡ true
-    → (last : Base) (others : List Base) → Stands17 (narrow_walk row) last others
+    → (last : BaseCharacter) (others : List BaseCharacter) → Stands17 (narrow_walk row) last others
     → Passes17 (narrow_walk next_row) last others (character_by V17_0 p) (decided_narrow outcome)
 passes_narrow row symbol next_row outcome p lt shows reads_row reads_outcome h last others stands =
     let c : Character = character_by V17_0 p in

@@ -5,13 +5,13 @@ use Rattle.std.proofs.lemmas.List.{append_assoc}
 use Rattle.std.proofs.lemmas.Grind.{reverse_onto}
 use Rattle.ucd.specs.declared.line_class.LineClass.{LineClass}
 use Rattle.ucd.specs.declared.line_class.LineClass.TheVariants.{CL, CP, HY, IS, NU, OP, PO, PR, SY}
-use Rattle.breaks.specs.Bases.{Base, class_of}
+use Rattle.breaks.specs.Bases.{BaseCharacter, class_of}
 use Rattle.breaks.specs.Classes.{is_same, is_one_of}
 use Rattle.breaks.specs.Numbers.{affix, opening, middle, closing, is_end, goes_on, begins_with_digit, is_unaffixed, is_number, fronts, is_in_number}
 use Rattle.breaks.specs.Rules.{is}
 use Rattle.breaks.specs.Walk.{ends_in_digits, ends_in_closed_digits, begins_unaffixed, goes_on_after_digits}
 
-abbrev classes_of : List Base → List LineClass
+abbrev classes_of : List BaseCharacter → List LineClass
 classes_of bases = map class_of bases
 
 -- Whether a position is at one of the four places of the expression, and `back` matches the rest of it. The
@@ -86,7 +86,7 @@ step CP next back a b d e = ends (is_end (next ∷ back)) a b d e
 step class next back a b d e = none_of a b d e
 
 -- whether some bases directly before a position, with `next` and `back` after them, form a number
-abbrev begun : List Base → Base → List Base → Bool
+abbrev begun : List BaseCharacter → BaseCharacter → List BaseCharacter → Bool
 begun before next back = list_any (λ front. is_number (classes_of (reverse front ++ next ∷ back))) (fronts before)
 
 any_map : {A B : Type 0} (f : A → B) (test : B → Bool) (xs : List A) → list_any test (map f xs) ≡ list_any (λ x. test (f x)) xs
@@ -105,19 +105,19 @@ any_same : {A : Type 0} (p q : A → Bool) (same : (x : A) → p x ≡ q x) (xs 
 any_same p q same [] = refl
 any_same p q same (x ∷ xs) = rw (same x, any_same p q same xs) refl
 
-moved : (b next : Base) (front back : List Base) → reverse (b ∷ front) ++ next ∷ back ≡ reverse front ++ b ∷ next ∷ back
+moved : (b next : BaseCharacter) (front back : List BaseCharacter) → reverse (b ∷ front) ++ next ∷ back ≡ reverse front ++ b ∷ next ∷ back
 moved b next front back = ap (λ bases. bases ++ next ∷ back) (reverse_onto front b []) ∙ append_assoc (reverse front) (b ∷ []) (next ∷ back)
 
-begun_more : (b : Base) (before : List Base) (next : Base) (back : List Base) → begun (b ∷ before) next back ≡ (is_number (classes_of (b ∷ next ∷ back)) || begun before b (next ∷ back))
+begun_more : (b : BaseCharacter) (before : List BaseCharacter) (next : BaseCharacter) (back : List BaseCharacter) → begun (b ∷ before) next back ≡ (is_number (classes_of (b ∷ next ∷ back)) || begun before b (next ∷ back))
 begun_more b before next back =
     ap (λ rest. is_number (classes_of (b ∷ next ∷ back)) || rest)
     (any_map (λ front. b ∷ front) (λ front. is_number (classes_of (reverse front ++ next ∷ back))) (fronts before)
     ∙ any_same _ _ (λ front. ap (λ bases. is_number (classes_of bases)) (moved b next front back)) (fronts before))
 
-abbrev is_at : List Base → List LineClass → Bool
+abbrev is_at : List BaseCharacter → List LineClass → Bool
 is_at before = at_place (is affix before) (is opening before) (ends_in_digits before) (ends_in_closed_digits before)
 
-begun_is : (before : List Base) (next : Base) (back : List Base) → begun before next back ≡ is_at before (classes_of (next ∷ back))
+begun_is : (before : List BaseCharacter) (next : BaseCharacter) (back : List BaseCharacter) → begun before next back ≡ is_at before (classes_of (next ∷ back))
 begun_is [] next back = refl
 begun_is (b ∷ before) next back =
     begun_more b before next back
@@ -189,7 +189,7 @@ some_unaffixed HY back = fronts_begin is_unaffixed HY back ∙ some_digits back
 some_unaffixed class back = fronts_begin is_unaffixed class back ∙ any_none (fronts back)
 
 -- the prefixes of a list of bases have the same classes as the prefixes of the list of the bases' classes
-fronts_map : (bases : List Base) → map (λ front. classes_of front) (fronts bases) ≡ fronts (classes_of bases)
+fronts_map : (bases : List BaseCharacter) → map (λ front. classes_of front) (fronts bases) ≡ fronts (classes_of bases)
 fronts_map [] = refl
 fronts_map (b ∷ bases) =
     ap (λ rest. (class_of b ∷ []) ∷ rest)
@@ -197,7 +197,7 @@ fronts_map (b ∷ bases) =
     ∙ sym (map_map (λ front. classes_of front) (λ front. class_of b ∷ front) (fronts bases))
     ∙ ap (map (λ front. class_of b ∷ front)) (fronts_map bases))
 
-first_is_class : (classes : List LineClass) (bases : List Base) → first_is classes (classes_of bases) ≡ is classes bases
+first_is_class : (classes : List LineClass) (bases : List BaseCharacter) → first_is classes (classes_of bases) ≡ is classes bases
 first_is_class classes [] = refl
 first_is_class classes (b ∷ bases) = refl
 
@@ -208,13 +208,13 @@ either_way test (x ∷ xs) ys = ap (λ rest. list_any (test x) ys || rest) (eith
 
 -- some bases before a position and a prefix of those after it form a number if and only if the conditions
 -- hold for the prefix
-begun_fronts : (before : List Base) (b : Base) (fs : List (List Base))
+begun_fronts : (before : List BaseCharacter) (b : BaseCharacter) (fs : List (List BaseCharacter))
     → list_any (λ back. list_any (λ front. is_number (classes_of (reverse front ++ back))) (fronts before))
     (map (λ front. b ∷ front) fs) ≡ list_any (λ back. is_at before (classes_of back)) (map (λ front. b ∷ front) fs)
 begun_fronts before b [] = refl
 begun_fronts before b (f ∷ fs) = rw (begun_is before b f, begun_fronts before b fs) refl
 
-begun_all : (before after : List Base)
+begun_all : (before after : List BaseCharacter)
     → list_any (λ back. list_any (λ front. is_number (classes_of (reverse front ++ back))) (fronts before))
     (fronts after) ≡ list_any (λ back. is_at before (classes_of back)) (fronts after)
 begun_all before [] = refl
@@ -222,7 +222,7 @@ begun_all before (b ∷ after) = begun_fronts before b ([] ∷ fronts after)
 
 -- a position is inside a number if and only if the conditions before and after it hold for one of the four
 -- places
-pub in_number_is : (before after : List Base) → is_in_number before after
+pub in_number_is : (before after : List BaseCharacter) → is_in_number before after
     ≡ ((is affix before && begins_unaffixed after) ||
     ((is opening before && is (NU ∷ []) after) ||
     ((ends_in_digits before && is goes_on_after_digits after) || (ends_in_closed_digits before && is affix after))))

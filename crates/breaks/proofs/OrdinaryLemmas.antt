@@ -6,9 +6,9 @@ use Rattle.std.proofs.lemmas.Bool.{both_ways, cases_Bool}
 use Rattle.std.proofs.lemmas.List.Folds.{list_all_at}
 use Rattle.ucd.specs.declared.line_class.LineClass.TheVariants.{ZWJ}
 use Rattle.ucd.specs.declared.properties.Properties.{Properties}
-use Rattle.breaks.specs.Bases.{Base, Character, alone}
+use Rattle.breaks.specs.Bases.{BaseCharacter, Character, alone}
 use Rattle.breaks.specs.Classes.{is_same}
-use Rattle.breaks.specs.Symbols.{character_by, shown, told}
+use Rattle.breaks.specs.Symbols.{character_by, shown, as_read}
 use Rattle.breaks.specs.Walk.{Stands, decided_at, full_walk, is_ordinary}
 use Rattle.breaks.specs.declared.entries.TheConstants.{NEXT_ROWS, OUTCOMES}
 use Rattle.breaks.specs.declared.symbol.TheConstants.{JOINER, SYMBOL_COUNT}
@@ -28,14 +28,14 @@ parts_both true false h = cc
 parts_both false b h = cc
 
 -- a symbol is `JOINER` if and only if it is that of a ZWJ
-joins : (symbol : ℕ) (p : Properties) → symbol < SYMBOL_COUNT → shown symbol ≡ told (character_by V15_0 p) → (symbol == JOINER) ≡ is_same (character_by V15_0 p).class ZWJ
+joins : (symbol : ℕ) (p : Properties) → symbol < SYMBOL_COUNT → shown symbol ≡ as_read (character_by V15_0 p) → (symbol == JOINER) ≡ is_same (character_by V15_0 p).class ZWJ
 joins symbol p below shows = is_joiner symbol below ∙ ap (λ d. is_same d.class ZWJ) shows
 
-pub ordinary_by : (symbol : ℕ) (p : Properties) (joiner pictograph : Bool) → symbol < SYMBOL_COUNT → shown symbol ≡ told (character_by V15_0 p)
+pub ordinary_by : (symbol : ℕ) (p : Properties) (joiner pictograph : Bool) → symbol < SYMBOL_COUNT → shown symbol ≡ as_read (character_by V15_0 p)
     → joiner ≡ (symbol == JOINER) → pictograph ≡ p.is_future_pictograph → (not joiner && not pictograph) ≡ is_ordinary p
 ordinary_by symbol p joiner pictograph below shows joined is = rw (joined ∙ joins symbol p below shows, is) refl
 
-pub starts_ordinary : (symbol next_row : ℕ) (p : Properties) → symbol < SYMBOL_COUNT → shown symbol ≡ told (character_by V15_0 p)
+pub starts_ordinary : (symbol next_row : ℕ) (p : Properties) → symbol < SYMBOL_COUNT → shown symbol ≡ as_read (character_by V15_0 p)
     → next_row ≡ get_or NEXT_ROWS (0 + symbol) 0 → is_ordinary p ≡ true
     → (whole_numbers : Bool) → Stands whole_numbers (full_walk next_row) (alone (character_by V15_0 p)) []
 starts_ordinary symbol next_row p below shows reads ordinary whole_numbers =
@@ -59,9 +59,9 @@ decides_alone outcome =
       | inr not_unless ↦ rw not_unless refl
     ]
 
-pub passes_ordinary : (row symbol next_row outcome : ℕ) (p : Properties) → symbol < SYMBOL_COUNT → shown symbol ≡ told (character_by V15_0 p)
+pub passes_ordinary : (row symbol next_row outcome : ℕ) (p : Properties) → symbol < SYMBOL_COUNT → shown symbol ≡ as_read (character_by V15_0 p)
     → next_row ≡ get_or NEXT_ROWS (row + symbol) 0 → outcome ≡ get_or OUTCOMES (row + symbol) 0 → is_ordinary p ≡ true
-    → (whole_numbers : Bool) (last : Base) (others : List Base) → Stands whole_numbers (full_walk row) last others
+    → (whole_numbers : Bool) (last : BaseCharacter) (others : List BaseCharacter) → Stands whole_numbers (full_walk row) last others
     → Passes15 whole_numbers (full_walk next_row) last others (character_by V15_0 p) outcome
 passes_ordinary row symbol next_row outcome p below shows reads_row reads_outcome next whole_numbers last others stands =
     let c : Character = character_by V15_0 p in

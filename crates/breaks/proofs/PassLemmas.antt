@@ -4,10 +4,10 @@ use Rattle.ucd.specs.declared.version.Version.TheVariants.{V15_0}
 use Rattle.std.proofs.lemmas.Bool.{cases_Bool}
 use Rattle.ucd.specs.declared.line_class.LineClass.{LineClass}
 use Rattle.ucd.specs.declared.line_class.LineClass.TheVariants.{CM, NU, OP, ZWJ}
-use Rattle.breaks.specs.Bases.{Base, Character, alone, bases_of, end_of, stays_with}
+use Rattle.breaks.specs.Bases.{BaseCharacter, Character, alone, bases_of, end_of, stays_with}
 use Rattle.breaks.specs.Classes.{is_same, is_one_of}
 use Rattle.breaks.specs.Rules.{rows_before_numbers, rows_of_numbers, rows_after_numbers, rules, mark_by, is}
-use Rattle.breaks.specs.Symbols.{shown, told}
+use Rattle.breaks.specs.Symbols.{shown, as_read}
 use Rattle.breaks.specs.Passes.{Passes, bases_after, with_attached}
 use Rattle.breaks.specs.Walk.{Stands, bases_at, unattached, answers, carried, decided_at, mark_given, mark_of, rows}
 use Rattle.breaks.specs.declared.mark.Mark.{Mark}
@@ -18,8 +18,8 @@ use Rattle.breaks.specs.declared.table.TheConstants.{ENTRY_COUNT, LAST_ROW, NEVE
 use Rattle.breaks.specs.declared.walk.Walk15.{Walk15}
 use Rattle.breaks.proofs.BoolLemmas.{Next, next_of, next_as, entry_at, same_four, both, same, same_is, all_same, all_same_is, below, entries_below, entries_within, is_equal}
 use Rattle.breaks.proofs.Computed.{after_at, afters, before_at, befores, decide, marks_by_row, answers_after, answered_with, is_mark, stays, gives_both, gives_each, leads, leads_at, leads_by, is_right, right_by, right_from, table_right, table_is_right, table_is_right_whole, rows_are_within, outcomes_are_within, waits_for_base}
-use Rattle.breaks.proofs.StepLemmas.{end_attached, marked, answers_attached, carried_attached, answers_same, carried_same, answers_told, carried_told}
-use Rattle.breaks.proofs.SymbolLemmas.{is_joiner, answers_after_told}
+use Rattle.breaks.proofs.StepLemmas.{end_attached, marked, answers_attached, carried_attached, answers_same, carried_same, answers_as_read, carried_as_read}
+use Rattle.breaks.proofs.SymbolLemmas.{is_joiner, answers_after_as_read}
 
 pub is_mark_is : (a b : Mark) → is_mark a b ≡ true → a ≡ b
 is_mark_is Never Never h = refl
@@ -127,8 +127,8 @@ record Begins (whole_numbers : Bool) (state symbol outcome next : ℕ) : Type 0 
 
 beginning : (whole_numbers : Bool) (state symbol outcome next : ℕ) → leads whole_numbers false state symbol outcome next ≡ true → Begins whole_numbers state symbol outcome next
 beginning whole_numbers state symbol outcome next led =
-    let after : List Base = alone (shown symbol) ∷ bases_at state in
-    let there : List Base = bases_at next in
+    let after : List BaseCharacter = alone (shown symbol) ∷ bases_at state in
+    let there : List BaseCharacter = bases_at next in
     let attaching : Bool = same (is_one_of unattached (shown symbol).class) (is unattached there) in
     let waiting : Bool = waits_for_base symbol outcome in
     let giving : Bool = gives_each whole_numbers state symbol outcome in
@@ -148,8 +148,8 @@ beginning whole_numbers state symbol outcome next led =
 
 -- After a character that begins a base, the new state belongs to the bases that include it. The bases before
 -- it must have the same `carried` as the example bases of the old state.
-pub begins : (whole_numbers : Bool) (state symbol next_row outcome : ℕ) (c : Character) (before : List Base)
-    → symbol < SYMBOL_COUNT → shown symbol ≡ told c → Leads whole_numbers state symbol next_row outcome → stays state symbol
+pub begins : (whole_numbers : Bool) (state symbol next_row outcome : ℕ) (c : Character) (before : List BaseCharacter)
+    → symbol < SYMBOL_COUNT → shown symbol ≡ as_read c → Leads whole_numbers state symbol next_row outcome → stays state symbol
     ≡ false → carried before ≡ carried (bases_at state)
     → Stands whole_numbers (record {
       row = next_row;
@@ -164,10 +164,10 @@ begins whole_numbers state symbol next_row outcome c before symbol_lt shows entr
       below = entry_leads.below;
       row = entry_leads.row;
       answered =
-          answers_told whole_numbers c before ∙ ap (λ d. answers whole_numbers (alone d ∷ before)) (sym shows)
+          answers_as_read whole_numbers c before ∙ ap (λ d. answers whole_numbers (alone d ∷ before)) (sym shows)
           ∙ answers_same whole_numbers (alone (shown symbol)) before (bases_at state) carry ∙ says.answered;
       carries =
-          carried_told c before ∙ ap (λ d. carried (alone d ∷ before)) (sym shows)
+          carried_as_read c before ∙ ap (λ d. carried (alone d ∷ before)) (sym shows)
           ∙ carried_same (alone (shown symbol)) before (bases_at state) carry ∙ says.carries;
       attaches = ap (λ d. is_one_of unattached d.class) (sym shows) ∙ says.attaches;
       is_joined = is_joiner symbol symbol_lt ∙ ap (λ d. is_same d.class ZWJ) shows;
@@ -175,9 +175,9 @@ begins whole_numbers state symbol next_row outcome c before symbol_lt shows entr
     }
 
 -- after a character that joins the last base, the new state belongs to the bases with the character attached
-attached : (whole_numbers : Bool) (walk : Walk15) (last : Base) (others : List Base)
+attached : (whole_numbers : Bool) (walk : Walk15) (last : BaseCharacter) (others : List BaseCharacter)
     (stands : Stands whole_numbers walk last others) (symbol next_row outcome : ℕ) (c : Character) → symbol < SYMBOL_COUNT
-    → shown symbol ≡ told c → Leads whole_numbers stands.state symbol next_row outcome → stays stands.state symbol ≡ true
+    → shown symbol ≡ as_read c → Leads whole_numbers stands.state symbol next_row outcome → stays stands.state symbol ≡ true
     → Stands whole_numbers (record {
       row = next_row;
       is_joined = symbol == JOINER;
@@ -186,8 +186,8 @@ attached : (whole_numbers : Bool) (walk : Walk15) (last : Base) (others : List B
     }) (with_attached last c) others
 attached whole_numbers walk last others stands symbol next_row outcome c symbol_lt shows entry_leads stay =
     let led : leads whole_numbers true stands.state symbol outcome entry_leads.next ≡ true = rw stay at entry_leads.leads in
-    let here : List Base = bases_at stands.state in
-    let next : List Base = bases_at entry_leads.next in
+    let here : List BaseCharacter = bases_at stands.state in
+    let next : List BaseCharacter = bases_at entry_leads.next in
     let attaching : Bool = same (is unattached here) (is unattached next) in
     let alike : Bool = all_same (answers whole_numbers here) (answers whole_numbers next) && all_same (carried here) (carried next) in
     let facts : ((outcome == STAYS) ≡ true) × ((alike && attaching) ≡ true) = both _ _ led in
@@ -210,7 +210,7 @@ attached whole_numbers walk last others stands symbol next_row outcome c symbol_
 
 -- the conditions on the bases after a position depend only on the character there and on whether the second
 -- base is NU
-reads_after : (whole_numbers : Bool) (c : Character) (attached : List Character) (bases : List Base)
+reads_after : (whole_numbers : Bool) (c : Character) (attached : List Character) (bases : List BaseCharacter)
     → map (λ row. row.after (record { first = c; attached = attached } ∷ bases)) (rows whole_numbers)
     ≡ answers_after whole_numbers c (is (NU ∷ []) bases)
 unfolding rows rows_before_numbers rows_of_numbers rows_after_numbers
@@ -226,7 +226,7 @@ reads_after false c attached bases =
     ]
 
 -- the first base of a text begins with its first character
-pub first_base : (c : Character) (text : List Character) → (attached : List Character) × (bases : List Base) × (bases_of (c ∷ text) ≡ record { first = c; attached = attached } ∷ bases)
+pub first_base : (c : Character) (text : List Character) → (attached : List Character) × (bases : List BaseCharacter) × (bases_of (c ∷ text) ≡ record { first = c; attached = attached } ∷ bases)
 first_base c [] = ([], [], refl)
 first_base c (d ∷ text) =
     let next = first_base d text in
@@ -263,24 +263,24 @@ opening_attaches : (class : LineClass) → is_one_of (OP ∷ []) class ≡ true 
 opening_attaches OP h = refl
 opening_attaches class h = cc
 
-told_class : (symbol : ℕ) (c : Character) → shown symbol ≡ told c → (shown symbol).class ≡ c.class
-told_class symbol c shows = ap (λ d. d.class) shows
+class_as_read : (symbol : ℕ) (c : Character) → shown symbol ≡ as_read c → (shown symbol).class ≡ c.class
+class_as_read symbol c shows = ap (λ d. d.class) shows
 
 -- The first base of a text and the bases after it. If the outcome depends on the later bases, they are the
 -- bases of the text without the characters that join the first base.
 record Reads (whole_numbers : Bool) (decided : ℕ) (c : Character) (text : List Character) : Type 0 where
   attached : List Character
-  rest : List Base
+  rest : List BaseCharacter
   bases : bases_of (c ∷ text) ≡ record { first = c; attached = attached } ∷ rest
   alike : mark_given whole_numbers decided (bases_after text) ≡ mark_given whole_numbers decided rest
 
 reads : (whole_numbers : Bool) (symbol outcome : ℕ) (c : Character) (text : List Character) (is_joined is_pictograph : Bool)
-    → shown symbol ≡ told c → waits_for_base symbol outcome ≡ true → Reads whole_numbers (decided_at outcome is_joined is_pictograph) c text
+    → shown symbol ≡ as_read c → waits_for_base symbol outcome ≡ true → Reads whole_numbers (decided_at outcome is_joined is_pictograph) c text
 reads whole_numbers symbol outcome c text is_joined is_pictograph shows waits =
     elim (cases_Bool (outcome == WAITS)) [
       | inl waiting ↦
           let opening : is_one_of (OP ∷ []) (shown symbol).class ≡ true = rw waiting at waits in
-          let free : is_one_of unattached c.class ≡ false = ap (is_one_of unattached) (sym (told_class symbol c shows)) ∙ opening_attaches (shown symbol).class opening in
+          let free : is_one_of unattached c.class ≡ false = ap (is_one_of unattached) (sym (class_as_read symbol c shows)) ∙ opening_attaches (shown symbol).class opening in
           let second = second_bases c text free in
           record { attached = second.0; rest = bases_after text; bases = second.1; alike = refl }
       | inr other ↦
@@ -289,9 +289,9 @@ reads whole_numbers symbol outcome c text is_joined is_pictograph shows waits =
     ]
 
 -- if the next character begins a base, the mark of the outcome is the mark of the rules
-marks_begun : (whole_numbers : Bool) (walk : Walk15) (last : Base) (others : List Base)
+marks_begun : (whole_numbers : Bool) (walk : Walk15) (last : BaseCharacter) (others : List BaseCharacter)
     (stands : Stands whole_numbers walk last others) (symbol next_row outcome : ℕ) (c : Character) (text : List Character)
-    → shown symbol ≡ told c → Leads whole_numbers stands.state symbol next_row outcome → stays stands.state symbol ≡ false
+    → shown symbol ≡ as_read c → Leads whole_numbers stands.state symbol next_row outcome → stays stands.state symbol ≡ false
     → mark_given whole_numbers (decided_at outcome walk.is_joined walk.is_pictograph) (bases_after text)
     ≡ mark_by (rules V15_0 whole_numbers) (last ∷ others) (bases_of (c ∷ text))
 marks_begun whole_numbers walk last others stands symbol next_row outcome c text shows entry_leads begun =
@@ -311,20 +311,20 @@ marks_begun whole_numbers walk last others stands symbol next_row outcome c text
     (answers whole_numbers (last ∷ others))) (answers_after whole_numbers (shown symbol) digit))
     stands.is_pictograph
     ∙ ap (λ row. decide (marks_by_row whole_numbers) (answered_with whole_numbers (is_same (end_of last).class ZWJ) last.first.is_future_pictograph (answers whole_numbers (last ∷ others))) row)
-    (ap (λ d. answers_after whole_numbers d digit) shows ∙ sym (answers_after_told whole_numbers c digit) ∙ sym (reads_after whole_numbers c after.attached after.rest))
+    (ap (λ d. answers_after whole_numbers d digit) shows ∙ sym (answers_after_as_read whole_numbers c digit) ∙ sym (reads_after whole_numbers c after.attached after.rest))
     ∙ sym (marked whole_numbers last others (record { first = c; attached = after.attached } ∷ after.rest))
     ∙ ap (mark_by (rules V15_0 whole_numbers) (last ∷ others)) (sym after.bases)
 
 -- the next character joins the last base if and only if its symbol joins the last base of the state
-stays_is : (whole_numbers : Bool) (walk : Walk15) (last : Base) (others : List Base)
-    (stands : Stands whole_numbers walk last others) (symbol : ℕ) (c : Character) → shown symbol ≡ told c
+stays_is : (whole_numbers : Bool) (walk : Walk15) (last : BaseCharacter) (others : List BaseCharacter)
+    (stands : Stands whole_numbers walk last others) (symbol : ℕ) (c : Character) → shown symbol ≡ as_read c
     → stays_with (end_of last) c ≡ stays stands.state symbol
 stays_is whole_numbers walk last others stands symbol c shows =
     ap (λ attaches. is_one_of (CM ∷ ZWJ ∷ []) c.class && not attaches) stands.attaches
     ∙ ap (λ d. is_one_of (CM ∷ ZWJ ∷ []) d.class && not (is unattached (bases_at stands.state))) (sym shows)
 
 -- the outcome is `STAYS` if and only if the next character joins the last base
-outcome_stays : (whole_numbers : Bool) (walk : Walk15) (last : Base) (others : List Base)
+outcome_stays : (whole_numbers : Bool) (walk : Walk15) (last : BaseCharacter) (others : List BaseCharacter)
     (stands : Stands whole_numbers walk last others) (symbol next_row outcome : ℕ) → Leads whole_numbers stands.state symbol next_row outcome
     → (outcome == STAYS) ≡ stays stands.state symbol
 outcome_stays whole_numbers walk last others stands symbol next_row outcome entry_leads =
@@ -358,12 +358,12 @@ never_stays whole_numbers outcome false is_pictograph before_digit stay =
     ∙ never_outcome whole_numbers before_digit is_pictograph
 
 -- one step of the walk
-abbrev pub Passes15 : Bool → Walk15 → Base → List Base → Character → ℕ → Type 0
+abbrev pub Passes15 : Bool → Walk15 → BaseCharacter → List BaseCharacter → Character → ℕ → Type 0
 Passes15 whole_numbers after last others c decided =
     Passes (rules V15_0 whole_numbers) (mark_given whole_numbers decided) (Stands whole_numbers after) last others c
 
 pub passes : (whole_numbers : Bool) (walk : Walk15) (symbol next_row outcome : ℕ) (c : Character) → symbol < SYMBOL_COUNT
-    → shown symbol ≡ told c → next_row ≡ get_or NEXT_ROWS (walk.row + symbol) 0 → outcome ≡ get_or OUTCOMES (walk.row + symbol) 0 → (last : Base) (others : List Base)
+    → shown symbol ≡ as_read c → next_row ≡ get_or NEXT_ROWS (walk.row + symbol) 0 → outcome ≡ get_or OUTCOMES (walk.row + symbol) 0 → (last : BaseCharacter) (others : List BaseCharacter)
     → Stands whole_numbers walk last others
     → Passes15 whole_numbers (record {
       row = next_row;
@@ -390,7 +390,7 @@ passes whole_numbers walk symbol next_row outcome c symbol_lt shows reads_row re
 
 -- the first character of a text is read as if it came after BK, and the resulting state belongs to the base
 -- with that character
-pub starts : (symbol next_row : ℕ) (c : Character) → symbol < SYMBOL_COUNT → shown symbol ≡ told c → next_row
+pub starts : (symbol next_row : ℕ) (c : Character) → symbol < SYMBOL_COUNT → shown symbol ≡ as_read c → next_row
     ≡ get_or NEXT_ROWS (0 + symbol) 0 → (whole_numbers : Bool)
     → Stands whole_numbers (record {
       row = next_row;
@@ -404,10 +404,10 @@ starts symbol next_row c symbol_lt shows reads_row whole_numbers =
 
 -- one step of the walk, stated for the values that the program computes
 pub passes_as : (walk : Walk15) (symbol next_row outcome : ℕ) (c : Character) (is_pictograph : Bool) (decided : ℕ)
-    → symbol < SYMBOL_COUNT → shown symbol ≡ told c → next_row ≡ get_or NEXT_ROWS (walk.row + symbol) 0 → outcome ≡ get_or OUTCOMES (walk.row + symbol) 0
+    → symbol < SYMBOL_COUNT → shown symbol ≡ as_read c → next_row ≡ get_or NEXT_ROWS (walk.row + symbol) 0 → outcome ≡ get_or OUTCOMES (walk.row + symbol) 0
     → kept walk outcome c ≡ is_pictograph → decided
     ≡ decided_at outcome walk.is_joined walk.is_pictograph
-    → (whole_numbers : Bool) (last : Base) (others : List Base) → Stands whole_numbers walk last others
+    → (whole_numbers : Bool) (last : BaseCharacter) (others : List BaseCharacter) → Stands whole_numbers walk last others
     → Passes15 whole_numbers (record {
       row = next_row;
       is_joined = symbol == JOINER;

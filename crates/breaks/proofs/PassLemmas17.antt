@@ -6,10 +6,10 @@ use Rattle.ucd.specs.declared.line_class.LineClass.TheVariants.{AK, AL, AS, CM, 
 use Rattle.ucd.specs.declared.line_detail.LineDetail.{LineDetail}
 use Rattle.ucd.specs.declared.line_detail.LineDetail.TheVariants.{DottedCircle}
 use Rattle.ucd.specs.declared.version.Version.TheVariants.{V17_0}
-use Rattle.breaks.specs.Bases.{Base, Character, alone, base_class, bases_of, class_of, end_of, is_east_asian, joined, stays_with}
+use Rattle.breaks.specs.Bases.{BaseCharacter, Character, alone, base_class, bases_of, class_of, end_of, is_east_asian, joined, stays_with}
 use Rattle.breaks.specs.Classes.{is_detail, is_same, is_one_of}
 use Rattle.breaks.specs.Rules.{rules, rows_before_numbers, rows_of_numbers, rows_after_numbers, mark_by, after_final, is, is_dotted_circle, is_not_east_asian, or_edge}
-use Rattle.breaks.specs.Symbols.{shown_17, told_17}
+use Rattle.breaks.specs.Symbols.{shown_17, as_read_17}
 use Rattle.breaks.specs.Passes.{Passes, bases_after, with_attached}
 use Rattle.breaks.specs.Walk.{unattached}
 use Rattle.breaks.specs.Walk17.{Bits, Stands17, answered_17, answers_17, bases_at_17, bits_in, bits_of, carried_17, decided_17, is_stop_digit, is_wide_base, mark_of_17, marks_17, rows_17}
@@ -24,8 +24,8 @@ use Rattle.breaks.proofs.Computed.{is_mark}
 use Rattle.breaks.proofs.Computed17.{after_at_17, after_in, afters_17, answers_after_17, asks, befores_at, befores_from, bits, bits_at, by_is_wide, decide_17, gives_17, gives_bits, gives_rest, gives_wide, here_at_17, heres_17, index_of, is_right_17, kind, kind_of, kinds_after, leads_17, leads_at_17, leads_by_17, marks_at_17, marks_by_row_17, marks_in, may_have, outcomes_are_within_17, rest_at, rest_marks_17, right_by_17, right_from_17, rows_are_within_17, stays_17, part, part_0, part_1, part_2, part_3, part_4, part_5, part_6, with_width}
 use Rattle.breaks.proofs.PassLemmas.{and_false, first_base, is_mark_is, joiner_attaches, mark_attaches, not_true, second_bases}
 use Rattle.breaks.proofs.StepLemmas.{end_attached}
-use Rattle.breaks.proofs.StepLemmas17.{circle_told, answers_after_told_17, answers_attached_17, answers_same_17, answers_told_17, carried_attached_17, carried_same_17, carried_told_17, marked_17}
-use Rattle.breaks.proofs.SymbolLemmas17.{is_joiner_17, may_have_told}
+use Rattle.breaks.proofs.StepLemmas17.{circle_as_read, answers_after_as_read_17, answers_attached_17, answers_same_17, answers_as_read_17, carried_attached_17, carried_same_17, carried_as_read_17, marked_17}
+use Rattle.breaks.proofs.SymbolLemmas17.{is_joiner_17, may_have_as_read}
 
 -- ---- the entries
 
@@ -85,8 +85,8 @@ record Begins17 (state symbol outcome next : ℕ) : Type 0 where
 
 beginning_17 : (state symbol outcome next : ℕ) → leads_17 false state symbol outcome next ≡ true → Begins17 state symbol outcome next
 beginning_17 state symbol outcome next led =
-    let after : List Base = alone (shown_17 symbol) ∷ bases_at_17 state in
-    let there : List Base = bases_at_17 next in
+    let after : List BaseCharacter = alone (shown_17 symbol) ∷ bases_at_17 state in
+    let there : List BaseCharacter = bases_at_17 next in
     let attaching : Bool = same (is_one_of unattached (shown_17 symbol).class) (is unattached there) in
     let giving : Bool = given_by_17 (befores_at state) symbol outcome (is unattached (bases_at_17 state)) (shown_17 symbol) in
     let alike : Bool = all_same (answers_17 after) (answers_17 there) && all_same (carried_17 after) (carried_17 there) in
@@ -103,8 +103,8 @@ beginning_17 state symbol outcome next led =
 
 -- After a character that begins a base, the new state belongs to the bases that include it. The bases before
 -- it must have the same `carried_17` as the example bases of the old state.
-pub begins_17 : (state symbol next_row outcome : ℕ) (c : Character) (before : List Base) (was_wide : Bool)
-    → symbol < SYMBOL_COUNT → shown_17 symbol ≡ told_17 c → Leads17 state symbol next_row outcome → stays_17 state symbol ≡ false
+pub begins_17 : (state symbol next_row outcome : ℕ) (c : Character) (before : List BaseCharacter) (was_wide : Bool)
+    → symbol < SYMBOL_COUNT → shown_17 symbol ≡ as_read_17 c → Leads17 state symbol next_row outcome → stays_17 state symbol ≡ false
     → carried_17 before ≡ carried_17 (bases_at_17 state) → was_wide ≡ is_wide_base before
     → Stands17 (record {
       row = next_row;
@@ -121,19 +121,19 @@ begins_17 state symbol next_row outcome c before was_wide symbol_lt shows entry_
       below = entry_leads.below;
       row = entry_leads.row;
       answered =
-          answers_told_17 c before ∙ ap (λ d. answers_17 (alone d ∷ before)) (sym shows)
+          answers_as_read_17 c before ∙ ap (λ d. answers_17 (alone d ∷ before)) (sym shows)
           ∙ answers_same_17 (alone (shown_17 symbol)) before (bases_at_17 state) carry ∙ says.answered;
       carries =
-          carried_told_17 c before ∙ ap (λ d. carried_17 (alone d ∷ before)) (sym shows)
+          carried_as_read_17 c before ∙ ap (λ d. carried_17 (alone d ∷ before)) (sym shows)
           ∙ carried_same_17 (alone (shown_17 symbol)) before (bases_at_17 state) carry ∙ says.carries;
       attaches = ap (λ d. is_one_of unattached d.class) (sym shows) ∙ says.attaches;
       bits = rw (joiner, was) refl;
     }
 
 -- after a character that joins the last base, the state belongs to the bases with the character attached
-attached_17 : (walk : Walk17) (last : Base) (others : List Base) (stands : Stands17 walk last others)
+attached_17 : (walk : Walk17) (last : BaseCharacter) (others : List BaseCharacter) (stands : Stands17 walk last others)
     (symbol next_row outcome : ℕ) (c : Character) → symbol < SYMBOL_COUNT
-    → shown_17 symbol ≡ told_17 c → Leads17 stands.state symbol next_row outcome → stays_17 stands.state symbol ≡ true
+    → shown_17 symbol ≡ as_read_17 c → Leads17 stands.state symbol next_row outcome → stays_17 stands.state symbol ≡ true
     → Stands17 (record walk { row = next_row; is_joined = symbol == JOINER }) (with_attached last c) others
 attached_17 walk last others stands symbol next_row outcome c symbol_lt shows entry_leads stay =
     let led : leads_17 true stands.state symbol outcome entry_leads.next ≡ true = rw stay at entry_leads.leads in
@@ -159,7 +159,7 @@ attached_17 walk last others stands symbol next_row outcome c symbol_lt shows en
 -- ---- the bases after the next one
 
 -- the results of all conditions on the bases after the next one
-unfoldable pub facts : List Base → List Bool
+unfoldable pub facts : List BaseCharacter → List Bool
 facts rest = or_edge (is after_final) rest ∷ is (NU ∷ []) rest ∷ or_edge is_not_east_asian rest ∷ is_stop_digit rest ∷ is (VF ∷ []) rest ∷ []
 
 abbrev facts_of : Bool → Bool → LineClass → List Bool
@@ -183,7 +183,7 @@ same_facts false false NU = refl
 same_facts false false VF = refl
 same_facts false false class = refl
 
-facts_kind : (rest : List Base) → facts rest ≡ facts (rest_at (kind rest))
+facts_kind : (rest : List BaseCharacter) → facts rest ≡ facts (rest_at (kind rest))
 unfolding facts
 facts_kind [] = refl
 facts_kind (b ∷ bases) = same_facts (is_east_asian b) (is (NU ∷ []) bases) (class_of b)
@@ -198,12 +198,12 @@ kind_is_below false true class = refl
 kind_is_below false false NU = refl
 kind_is_below false false class = refl
 
-kind_below : (rest : List Base) → nat_lt (kind rest) 11 ≡ true
+kind_below : (rest : List BaseCharacter) → nat_lt (kind rest) 11 ≡ true
 kind_below [] = refl
 kind_below (b ∷ bases) = kind_is_below (is_east_asian b) (is (NU ∷ []) bases) (class_of b)
 
 -- The conditions have the same results for two lists of bases with the same facts.
-module _ (p q : List Base) (alike : facts p ≡ facts q) where
+module _ (p q : List BaseCharacter) (alike : facts p ≡ facts q) where
   final : or_edge (is after_final) p ≡ or_edge (is after_final) q
   unfolding facts
   final = ap (λ l. get_or l 0 false) alike
@@ -243,7 +243,7 @@ asks_nothing OP circle h = cc
 asks_nothing QU circle h = cc
 asks_nothing class circle h = (refl, refl, refl, refl, h)
 
-after_any : (c : Character) (attached : List Character) (rest : List Base) → asks c ≡ false
+after_any : (c : Character) (attached : List Character) (rest : List BaseCharacter) → asks c ≡ false
     → map (λ row. row.after (record { first = c; attached = attached } ∷ rest)) rows_17 ≡ answers_after_17 c []
 unfolding rows_17 rows_before_numbers rows_of_numbers rows_after_numbers
 after_any c attached rest h =
@@ -262,7 +262,7 @@ asked_attaches QU detail h = refl
 asked_attaches class detail h = cc
 
 -- an outcome that is a mark is the same mark before any bases
-pub same_mark : (decided : ℕ) (p q : List Base) → nat_lt decided 4 ≡ true → mark_of_17 decided p ≡ mark_of_17 decided q
+pub same_mark : (decided : ℕ) (p q : List BaseCharacter) → nat_lt decided 4 ≡ true → mark_of_17 decided p ≡ mark_of_17 decided q
 same_mark zero p q lt = refl
 same_mark (suc zero) p q lt = refl
 same_mark (suc (suc zero)) p q lt = refl
@@ -350,8 +350,8 @@ given_17 state symbol outcome b wide place here may free gives lt =
     (parts.0, is_mark_is _ _ parts.1)
 
 -- if the next character begins a base, the mark of the outcome is the mark of the rules
-module _ (walk : Walk17) (last : Base) (others : List Base) (stands : Stands17 walk last others) (symbol next_row outcome : ℕ) (c : Character)
-    (shows : shown_17 symbol ≡ told_17 c) (entry_leads : Leads17 stands.state symbol next_row outcome) (begun : stays_17 stands.state symbol ≡ false) where
+module _ (walk : Walk17) (last : BaseCharacter) (others : List BaseCharacter) (stands : Stands17 walk last others) (symbol next_row outcome : ℕ) (c : Character)
+    (shows : shown_17 symbol ≡ as_read_17 c) (entry_leads : Leads17 stands.state symbol next_row outcome) (begun : stays_17 stands.state symbol ≡ false) where
   free : (bits_in walk).is_joined ≡ true → is unattached (bases_at_17 stands.state) ≡ false
   free joined = sym stands.attaches ∙ joiner_attaches (end_of last).class (sym (ap (λ (b : Bits). b.is_joined) stands.bits) ∙ joined)
 
@@ -364,10 +364,10 @@ module _ (walk : Walk17) (last : Base) (others : List Base) (stands : Stands17 w
       let says : Begins17 stands.state symbol outcome entry_leads.next = beginning_17 _ _ _ _ (rw begun at entry_leads.leads) in
       given_17 stands.state symbol outcome (bits_in walk) (is_east_asian (alone c)) place
       (at_bits stands.state walk.is_joined walk.is_pictograph walk.is_wide walk.was_wide)
-      (may_have_told c (shown_17 symbol) shows) free says.gives lt
+      (may_have_as_read c (shown_17 symbol) shows) free says.gives lt
 
   -- the mark of the rules, derived from the examples with which the table was checked
-  ruled : (place : ℕ) (attached : List Character) (rest : List Base)
+  ruled : (place : ℕ) (attached : List Character) (rest : List BaseCharacter)
       → map (λ row. row.after (record { first = c; attached = attached } ∷ rest)) rows_17 ≡ answers_after_17 c (rest_at place)
       → decide_17 marks_by_row_17 (answered_17 (bits_in walk) (answers_17 (bases_at_17 stands.state)))
       (answers_after_17 (with_width (shown_17 symbol) (is_east_asian (alone c))) (rest_at place))
@@ -377,11 +377,11 @@ module _ (walk : Walk17) (last : Base) (others : List Base) (stands : Stands17 w
       (answers_after_17 (with_width (shown_17 symbol) (is_east_asian (alone c))) (rest_at place))) stands.bits (sym stands.answered)
       ∙ ap (λ row. decide_17 marks_by_row_17 (answered_17 (bits_of last others) (answers_17 (last ∷ others))) row)
       (ap (λ d. answers_after_17 (with_width d (is_east_asian (alone c))) (rest_at place)) shows
-      ∙ sym (answers_after_told_17 c (rest_at place)) ∙ sym after)
+      ∙ sym (answers_after_as_read_17 c (rest_at place)) ∙ sym after)
       ∙ sym (marked_17 last others (record { first = c; attached = attached } ∷ rest))
 
   asks_same : asks (shown_17 symbol) ≡ asks c
-  asks_same = ap asks shows ∙ ap (λ circle. is_one_of (AK ∷ AS ∷ IS ∷ OP ∷ QU ∷ []) c.class || circle) (sym (circle_told c.class c.detail))
+  asks_same = ap asks shows ∙ ap (λ circle. is_one_of (AK ∷ AS ∷ IS ∷ OP ∷ QU ∷ []) c.class || circle) (sym (circle_as_read c.class c.detail))
 
   pub marks_begun_17 : (text : List Character)
       → mark_of_17 (decided_17 outcome (bits_in walk) (is_east_asian (alone c))) (bases_after text)
@@ -390,7 +390,7 @@ module _ (walk : Walk17) (last : Base) (others : List Base) (stands : Stands17 w
       let decided : ℕ = decided_17 outcome (bits_in walk) (is_east_asian (alone c)) in
       elim (cases_Bool (asks c)) [
         | inl asked ↦
-            let rest : List Base = bases_after text in
+            let rest : List BaseCharacter = bases_after text in
             let bases = second_bases c text (asked_attaches c.class c.detail asked) in
             let alike : facts rest ≡ facts (rest_at (kind rest)) = facts_kind rest in
             let below_all : kind rest < kinds_after (shown_17 symbol) = rw (asks_same ∙ asked) (is_below _ _ (kind_below rest)) in
@@ -410,8 +410,8 @@ module _ (walk : Walk17) (last : Base) (others : List Base) (stands : Stands17 w
       ]
 
 -- the next character joins the last base if and only if its symbol joins the last base of the state
-stays_is_17 : (walk : Walk17) (last : Base) (others : List Base) (stands : Stands17 walk last others) (symbol : ℕ) (c : Character)
-    → shown_17 symbol ≡ told_17 c → stays_with (end_of last) c ≡ stays_17 stands.state symbol
+stays_is_17 : (walk : Walk17) (last : BaseCharacter) (others : List BaseCharacter) (stands : Stands17 walk last others) (symbol : ℕ) (c : Character)
+    → shown_17 symbol ≡ as_read_17 c → stays_with (end_of last) c ≡ stays_17 stands.state symbol
 stays_is_17 walk last others stands symbol c shows =
     ap (λ attaches. is_one_of (CM ∷ ZWJ ∷ []) c.class && not attaches) stands.attaches
     ∙ ap (λ d. is_one_of (CM ∷ ZWJ ∷ []) d.class && not (is unattached (bases_at_17 stands.state))) (sym shows)
@@ -429,13 +429,13 @@ outcome_stays_17 state symbol next_row outcome entry_leads =
     ]
 
 -- one step of the walk
-abbrev pub Passes17 : Walk17 → Base → List Base → Character → ℕ → Type 0
+abbrev pub Passes17 : Walk17 → BaseCharacter → List BaseCharacter → Character → ℕ → Type 0
 Passes17 after last others c decided = Passes (rules V17_0 false) (mark_of_17 decided) (Stands17 after) last others c
 
 -- `Passes17` holds for a character that joins the last base
-pub passes_stay_17 : (walk : Walk17) (symbol next_row outcome : ℕ) (c : Character) → symbol < SYMBOL_COUNT → shown_17 symbol ≡ told_17 c
+pub passes_stay_17 : (walk : Walk17) (symbol next_row outcome : ℕ) (c : Character) → symbol < SYMBOL_COUNT → shown_17 symbol ≡ as_read_17 c
     → next_row ≡ get_or NEXT_ROWS (walk.row + symbol) 0 → outcome ≡ get_or OUTCOMES (walk.row + symbol) 0 → (outcome == STAYS) ≡ true
-    → (last : Base) (others : List Base) → Stands17 walk last others
+    → (last : BaseCharacter) (others : List BaseCharacter) → Stands17 walk last others
     → Passes17 (record walk { row = next_row; is_joined = symbol == JOINER }) last others c NEVER
 passes_stay_17 walk symbol next_row outcome c symbol_lt shows reads_row reads_outcome stay last others stands =
     let entry_leads : Leads17 stands.state symbol next_row outcome = entry_is_right_17 stands.state symbol walk.row next_row outcome stands.below symbol_lt stands.row reads_row reads_outcome in
@@ -447,10 +447,10 @@ passes_stay_17 walk symbol next_row outcome c symbol_lt shows reads_row reads_ou
 
 -- `Passes17` holds for a character that begins a base
 pub passes_begin_17 : (walk : Walk17) (symbol next_row outcome decided : ℕ) (is_pictograph next_is_wide : Bool) (c : Character) → symbol < SYMBOL_COUNT
-    → shown_17 symbol ≡ told_17 c → next_row ≡ get_or NEXT_ROWS (walk.row + symbol) 0 → outcome ≡ get_or OUTCOMES (walk.row + symbol) 0
+    → shown_17 symbol ≡ as_read_17 c → next_row ≡ get_or NEXT_ROWS (walk.row + symbol) 0 → outcome ≡ get_or OUTCOMES (walk.row + symbol) 0
     → (outcome == STAYS) ≡ false → is_pictograph ≡ c.is_future_pictograph → next_is_wide ≡ is_east_asian (alone c)
     → decided ≡ decided_17 outcome (bits_in walk) next_is_wide
-    → (last : Base) (others : List Base) → Stands17 walk last others
+    → (last : BaseCharacter) (others : List BaseCharacter) → Stands17 walk last others
     → Passes17 (record {
       row = next_row;
       is_joined = symbol == JOINER;
@@ -469,7 +469,7 @@ passes_begin_17 walk symbol next_row outcome decided is_pictograph next_is_wide 
 
 -- the first character of a text is read as if it came after BK, and the resulting state belongs to the base
 -- with that character
-pub starts_17 : (symbol next_row : ℕ) (is_pictograph is_wide : Bool) (c : Character) → symbol < SYMBOL_COUNT → shown_17 symbol ≡ told_17 c
+pub starts_17 : (symbol next_row : ℕ) (is_pictograph is_wide : Bool) (c : Character) → symbol < SYMBOL_COUNT → shown_17 symbol ≡ as_read_17 c
     → next_row ≡ get_or NEXT_ROWS (0 + symbol) 0 → is_pictograph ≡ c.is_future_pictograph → is_wide ≡ is_east_asian (alone c)
     → Stands17 (record {
       row = next_row;

@@ -7,7 +7,7 @@ use Rattle.breaks.specs.Bases.{Character, base_class, bases_of}
 use Rattle.breaks.specs.Classes.{is_one_of, is_same}
 use Rattle.breaks.specs.Passes.{bases_after}
 use Rattle.breaks.specs.Rules.{is}
-use Rattle.breaks.specs.Symbols.{shown, told}
+use Rattle.breaks.specs.Symbols.{shown, as_read}
 use Rattle.breaks.specs.Walk.{mark_given}
 use Rattle.breaks.specs.declared.symbol.TheConstants.{ATTACHED, DIGIT, SYMBOL_COUNT}
 use Rattle.breaks.specs.declared.table.TheConstants.{MAY, NEVER, WAITS}
@@ -29,7 +29,7 @@ digit_class ZWJ h = cc
 digit_class class h = refl
 
 -- the next base is NU if and only if the symbol of its first character is `DIGIT`
-next_digit : (symbol : ℕ) (c : Character) (text : List Character) → symbol < SYMBOL_COUNT → symbol < ATTACHED → shown symbol ≡ told c
+next_digit : (symbol : ℕ) (c : Character) (text : List Character) → symbol < SYMBOL_COUNT → symbol < ATTACHED → shown symbol ≡ as_read c
     → (symbol == DIGIT) ≡ is (NU ∷ []) (bases_after (c ∷ text))
 next_digit symbol c text within before shows =
     let other : is_one_of (CM ∷ ZWJ ∷ []) c.class ≡ false =
@@ -43,7 +43,7 @@ waits whole_numbers question h = let parts : ((question == WAITS) ≡ true) × (
 
 -- the answer before the next character: `NEVER` before NU, and otherwise `MAY`
 pub answered : (whole_numbers : Bool) (question symbol answer : ℕ) (c : Character) → ((question == WAITS) && whole_numbers) ≡ true
-    → symbol < SYMBOL_COUNT → symbol < ATTACHED → shown symbol ≡ told c → answer ≡ (if symbol == DIGIT then NEVER else MAY)
+    → symbol < SYMBOL_COUNT → symbol < ATTACHED → shown symbol ≡ as_read c → answer ≡ (if symbol == DIGIT then NEVER else MAY)
     → (text : List Character) → mark_given whole_numbers question (bases_after (c ∷ text)) ≡ mark_given whole_numbers answer (bases_after text)
 answered whole_numbers question symbol answer c asks within before shows is text =
     let is_waits = waits whole_numbers question asks in
@@ -53,7 +53,7 @@ answered whole_numbers question symbol answer c asks within before shows is text
       | inr is_other ↦ rw (is, is_waits.0, is_waits.1, is_other, sym digit ∙ is_other) refl
     ]
 
-pub passed_over : (whole_numbers : Bool) (question symbol : ℕ) (c : Character) (text : List Character) → symbol < SYMBOL_COUNT → ATTACHED ≤ symbol → shown symbol ≡ told c
+pub passed_over : (whole_numbers : Bool) (question symbol : ℕ) (c : Character) (text : List Character) → symbol < SYMBOL_COUNT → ATTACHED ≤ symbol → shown symbol ≡ as_read c
     → mark_given whole_numbers question (bases_after (c ∷ text)) ≡ mark_given whole_numbers question (bases_after text)
 passed_over whole_numbers question symbol c text within ge shows =
     let joins : is_one_of (CM ∷ ZWJ ∷ []) c.class ≡ true =

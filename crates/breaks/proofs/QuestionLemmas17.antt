@@ -2,10 +2,10 @@
 use Rattle.std.proofs.Common.{◌≡◌, ℕ, ◌+◌, ◌-◌, ◌*◌, ◌<◌, ◌≤◌, ◌==◌, nat_lt, Bool, true, false, not, ◌&&◌, ◌||◌, List, [], ◌∷◌, get_or, refl, sym, ap, ◌∙◌, arith, inl, inr}
 use Rattle.std.proofs.lemmas.Bool.{cases_Bool}
 use Rattle.ucd.specs.declared.line_class.LineClass.TheVariants.{CM, CP, NU, OP, ZWJ}
-use Rattle.breaks.specs.Bases.{Base, Character, alone, bases_of}
+use Rattle.breaks.specs.Bases.{BaseCharacter, Character, alone, bases_of}
 use Rattle.breaks.specs.Classes.{is_one_of}
 use Rattle.breaks.specs.Rules.{is}
-use Rattle.breaks.specs.Symbols.{shown_17, told_17}
+use Rattle.breaks.specs.Symbols.{shown_17, as_read_17}
 use Rattle.breaks.specs.Walk.{unattached}
 use Rattle.breaks.specs.Passes.{bases_after}
 use Rattle.breaks.specs.Walk17.{by_width, mark_of_17}
@@ -26,7 +26,7 @@ paren_width true true = refl
 paren_width true false = refl
 paren_width false wide = refl
 
-may_be : (c shown : Character) → shown ≡ told_17 c → may_have shown c.is_wide ≡ true
+may_be : (c shown : Character) → shown ≡ as_read_17 c → may_have shown c.is_wide ≡ true
 may_be c shown shows = ap (λ d. may_have d c.is_wide) shows ∙ paren_width (is_one_of (CP ∷ OP ∷ []) c.class) c.is_wide
 
 digit_is : (before_digit : Bool) → is (NU ∷ []) (digit_or_none before_digit) ≡ before_digit
@@ -34,7 +34,7 @@ digit_is true = refl
 digit_is false = refl
 
 -- the mark of an answer depends on the later bases only through whether the nearest one is NU
-same_answer : (c : Character) (answer : ℕ) (rest : List Base) → is_answer c answer ≡ true
+same_answer : (c : Character) (answer : ℕ) (rest : List BaseCharacter) → is_answer c answer ≡ true
     → mark_of_17 answer (digit_or_none (is (NU ∷ []) rest)) ≡ mark_of_17 answer rest
 same_answer c answer rest h =
     elim (cases_Bool (nat_lt answer 4)) [
@@ -53,7 +53,7 @@ right_by question shown answer false may narrow wide = ap (λ m. not m || answer
 right_by question shown answer true may narrow wide = ap (λ m. not m || answer_right question (with_width shown true) (by_width answer true)) (sym may) ∙ wide
 
 right_at : (question symbol answer : ℕ) (c : Character) → LB15B ≤ question → question < DECIDED_COUNT → symbol < ATTACHED → nat_lt symbol ATTACHED ≡ true
-    → shown_17 symbol ≡ told_17 c → answer ≡ get_or ANSWERS ((question - LB15B) * SYMBOL_COUNT + symbol) 0
+    → shown_17 symbol ≡ as_read_17 c → answer ≡ get_or ANSWERS ((question - LB15B) * SYMBOL_COUNT + symbol) 0
     → answer_right question (with_width (shown_17 symbol) c.is_wide) (by_width answer c.is_wide) ≡ true
 right_at question symbol answer c ge lt begins begin shows reads =
     let index : ℕ = question - LB15B in
@@ -65,7 +65,7 @@ right_at question symbol answer c ge lt begins begin shows reads =
     right_by question (shown_17 symbol) answer c.is_wide (may_be c (shown_17 symbol) shows) parts.0 parts.1
 
 -- the facts about the next base depend only on its symbol, its width and whether a base of class NU follows it
-same_bases : (c shown : Character) (attached : List Character) (rest : List Base) → shown ≡ told_17 c
+same_bases : (c shown : Character) (attached : List Character) (rest : List BaseCharacter) → shown ≡ as_read_17 c
     → facts (record { first = c; attached = attached } ∷ rest) ≡ facts (alone (with_width shown c.is_wide) ∷ digit_or_none (is (NU ∷ []) rest))
 unfolding facts
 same_bases c shown attached rest shows = rw (shows, digit_is (is (NU ∷ []) rest)) refl
@@ -77,12 +77,12 @@ one_by question answer d false without with_digit = is_mark_is _ _ without
 
 abbrev Said : ℕ → Character → ℕ → Type 0
 Said question c answer =
-    ((attached : List Character) (rest : List Base) → mark_of_17 question (record { first = c; attached = attached } ∷ rest) ≡ mark_of_17 answer rest)
+    ((attached : List Character) (rest : List BaseCharacter) → mark_of_17 question (record { first = c; attached = attached } ∷ rest) ≡ mark_of_17 answer rest)
     × (nat_lt answer 4 ≡ false → is_one_of unattached c.class ≡ false)
     × (answer < DECIDED_COUNT)
 
 answer_said : (question symbol answer result : ℕ) (c : Character) → LB15B ≤ question → question < DECIDED_COUNT → symbol < ATTACHED → nat_lt symbol ATTACHED ≡ true
-    → shown_17 symbol ≡ told_17 c → answer ≡ get_or ANSWERS ((question - LB15B) * SYMBOL_COUNT + symbol) 0 → result ≡ by_width answer c.is_wide
+    → shown_17 symbol ≡ as_read_17 c → answer ≡ get_or ANSWERS ((question - LB15B) * SYMBOL_COUNT + symbol) 0 → result ≡ by_width answer c.is_wide
     → Said question c result
 answer_said question symbol answer result c ge lt begins begin shows reads equals =
     let d : Character = with_width (shown_17 symbol) c.is_wide in
@@ -110,7 +110,7 @@ answer_said question symbol answer result c ge lt begins begin shows reads equal
 -- the answer to a question, given the next character, is the entry in the table, adjusted to the character's
 -- width
 pub answered : (question symbol answer result : ℕ) (c : Character) → LB15B ≤ question → question < DECIDED_COUNT → symbol < SYMBOL_COUNT → symbol < ATTACHED
-    → shown_17 symbol ≡ told_17 c → answer ≡ get_or ANSWERS ((question - LB15B) * SYMBOL_COUNT + symbol) 0 → result ≡ by_width answer c.is_wide
+    → shown_17 symbol ≡ as_read_17 c → answer ≡ get_or ANSWERS ((question - LB15B) * SYMBOL_COUNT + symbol) 0 → result ≡ by_width answer c.is_wide
     → ((text : List Character) → mark_of_17 question (bases_after (c ∷ text)) ≡ mark_of_17 result (bases_after text)) × (result < DECIDED_COUNT)
 answered question symbol answer result c ge lt within before shows reads equals =
     let begin : nat_lt symbol ATTACHED ≡ true = is_less symbol ATTACHED before in
@@ -131,7 +131,7 @@ answered question symbol answer result c ge lt within before shows reads equals 
     )
 
 -- a character that joins the base before it does not change the answer to a question
-pub passed_over : (question symbol : ℕ) (c : Character) (text : List Character) → symbol < SYMBOL_COUNT → ATTACHED ≤ symbol → shown_17 symbol ≡ told_17 c
+pub passed_over : (question symbol : ℕ) (c : Character) (text : List Character) → symbol < SYMBOL_COUNT → ATTACHED ≤ symbol → shown_17 symbol ≡ as_read_17 c
     → mark_of_17 question (bases_after (c ∷ text)) ≡ mark_of_17 question (bases_after text)
 passed_over question symbol c text within ge shows =
     let joins : is_one_of (CM ∷ ZWJ ∷ []) c.class ≡ true =

@@ -2,7 +2,7 @@
 use Rattle.std.proofs.Common.{◌≡◌, Bool, true, false, Option, None, Some, List, [], ◌∷◌, ◌++◌, length, map, refl, sym, ap, ◌∙◌, arith}
 use Rattle.std.specs.Prelude.{if◌then◌else◌, fold}
 use Rattle.std.specs.Option.{option_or}
-use Rattle.breaks.specs.Bases.{Base}
+use Rattle.breaks.specs.Bases.{BaseCharacter}
 use Rattle.breaks.specs.Reasons.{first_by}
 use Rattle.breaks.specs.Rules.{Row, Rule, rule_of}
 use Rattle.breaks.specs.declared.line_rule.LineRule.{LineRule}
@@ -42,7 +42,7 @@ abbrev pub AreNamed : List Part → Type 0
 AreNamed [] = Unit
 AreNamed (part ∷ parts) = (length part.names ≡ length part.rules) × AreNamed parts
 
-module _ (before after : List Base) where
+module _ (before after : List BaseCharacter) where
   abbrev pub first_in : Part → Option LineRule
   first_in part = first_by part.names part.rules before after
 

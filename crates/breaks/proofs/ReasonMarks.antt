@@ -3,7 +3,7 @@ use Rattle.std.proofs.Common.{◌≡◌, ℕ, Bool, List, [], ◌∷◌, ◌++�
 use Rattle.std.proofs.lemmas.List.{map-append}
 use Rattle.ucd.specs.declared.line_class.LineClass.{LineClass}
 use Rattle.ucd.specs.declared.tables.Tables.{Tables}
-use Rattle.breaks.specs.Bases.{Base, Character, bases_of, character, class_of}
+use Rattle.breaks.specs.Bases.{BaseCharacter, Character, bases_of, character, class_of}
 use Rattle.breaks.specs.Marks.{marks_after, marks_of}
 use Rattle.breaks.specs.Reasons.{chars_in, names, reason_at, reasons_after, reasons_inside, reasons_of, start_of}
 use Rattle.breaks.specs.Rules.{Rule, mark_by, rules, without_spaces}
@@ -20,7 +20,7 @@ marks_inside : (start : ℕ) (class : LineClass) (behind : Option ℕ) (c : Char
 marks_inside start class behind c [] = refl
 marks_inside start class behind c (d ∷ attached) = ap (λ (l : List Mark). Never ∷ l) (marks_inside start class behind d attached)
 
-marks_after_bases : (names : List LineRule) (rules : List Rule) (before bases : List Base)
+marks_after_bases : (names : List LineRule) (rules : List Rule) (before bases : List BaseCharacter)
     → map mark_in (reasons_after names rules before bases) ≡ marks_after rules before bases
 marks_after_bases names rules before [] = refl
 marks_after_bases names rules before (b ∷ after) =

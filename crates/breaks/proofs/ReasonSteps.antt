@@ -5,19 +5,19 @@ use Rattle.std.proofs.lemmas.List.{drop-drop, drop_more, get_or_default, get_or-
 use Rattle.ucd.specs.declared.line_class.LineClass.{LineClass}
 use Rattle.ucd.specs.declared.line_class.LineClass.TheVariants.{BK}
 use Rattle.ucd.specs.declared.line_detail.LineDetail.TheVariants.{Plain}
-use Rattle.breaks.specs.Bases.{Base, Character, class_of}
+use Rattle.breaks.specs.Bases.{BaseCharacter, Character, class_of}
 use Rattle.breaks.specs.Marks.{marks_after}
 use Rattle.breaks.specs.Reasons.{base_reasons, chars_in, reason_at, reasons_after, reasons_inside, start_of}
 use Rattle.breaks.specs.Rules.{Rule, mark_by, without_spaces}
 use Rattle.breaks.specs.Seen.{base_in, character_in}
-use Rattle.breaks.specs.declared.bases.Base.{Base as Found}
+use Rattle.breaks.specs.declared.bases.BaseCharacter.{BaseCharacter as Found}
 use Rattle.breaks.specs.declared.line_rule.LineRule.{LineRule}
 use Rattle.breaks.specs.declared.mark.Mark.{Mark}
 use Rattle.breaks.specs.declared.mark.Mark.TheVariants.{Never}
 use Rattle.breaks.specs.declared.reason.Reason.{Reason}
 
 -- the bases before the k-th one, the nearest first
-abbrev pub before_at : List Found → ℕ → List Base
+abbrev pub before_at : List Found → ℕ → List BaseCharacter
 before_at all k = map base_in (reverse (take k all))
 
 length-inside : (start : ℕ) (class : LineClass) (behind : Option ℕ) (c : Character) (attached : List Character)
@@ -30,13 +30,13 @@ seam [] y ys d = refl
 seam (x ∷ xs) y ys d = seam xs y ys d
 
 module _ (all : List Found) (k : ℕ) (x : Found) (below : k < length all) (here : x ≡ get_or all k x) where
-  abbrev bases : List Base
+  abbrev bases : List BaseCharacter
   bases = map base_in all
 
-  abbrev before : List Base
+  abbrev before : List BaseCharacter
   before = before_at all k
 
-  abbrev after : List Base
+  abbrev after : List BaseCharacter
   after = drop (k + 1) bases
 
   more : reverse (take (k + 1) all) ≡ x ∷ reverse (take k all)
@@ -69,7 +69,7 @@ module _ (all : List Found) (k : ℕ) (x : Found) (below : k < length all) (here
 
     pub chars_step : (list : List Reason) → length list ≡ chars_in before → length (list ++ new) ≡ chars_in (base_in x ∷ before)
     chars_step list size =
-        let b : Base = base_in x in
+        let b : BaseCharacter = base_in x in
         let inside : List Reason = reasons_inside (chars_in before) (class_of b) (start_of (without_spaces (b ∷ before))) b.first b.attached in
         omega (arith, size, length-append list new, length-append inside (reason_at names rules b before after ∷ []), length-inside (chars_in before) (class_of b) (start_of (without_spaces (b ∷ before))) b.first b.attached)
 

@@ -13,7 +13,7 @@ use Rattle.breaks.specs.Rules.{rows_before_numbers, rows_of_numbers, rows_after_
 use Rattle.breaks.specs.Walk.{rows}
 use Rattle.ucd.specs.declared.properties.Properties.{Properties}
 use Rattle.ucd.specs.Answers.{line_answers, line_answers_at}
-use Rattle.breaks.specs.Symbols.{character_by, character_in, shown, told}
+use Rattle.breaks.specs.Symbols.{character_by, character_in, shown, as_read}
 use Rattle.breaks.specs.declared.symbol.TheConstants.{ATTACHED, DIGIT, JOINER, SYMBOLS, SYMBOL_COUNT}
 use Rattle.breaks.proofs.BoolLemmas.{both, same, same_is, below, entries_below}
 use Rattle.breaks.proofs.Computed.{attached_are_last, answers_after, character_with, digit_is_one, is_character, joiner_is_one, symbols_are_right, symbols_are_within}
@@ -52,19 +52,19 @@ narrow_after : (class : LineClass) (is_wide : Bool) → (is_one_of (OP ∷ []) (
 narrow_after OP is_wide = refl
 narrow_after class is_wide = refl
 
-pub answers_after_told : (whole_numbers : Bool) (c : Character) (before_digit : Bool) → answers_after whole_numbers c before_digit ≡ answers_after whole_numbers (told c) before_digit
+pub answers_after_as_read : (whole_numbers : Bool) (c : Character) (before_digit : Bool) → answers_after whole_numbers c before_digit ≡ answers_after whole_numbers (as_read c) before_digit
 unfolding rows rows_before_numbers rows_of_numbers rows_after_numbers
-answers_after_told true c true = rw (narrow_after c.class c.is_wide) refl
-answers_after_told true c false = rw (narrow_after c.class c.is_wide) refl
-answers_after_told false c true = rw (narrow_after c.class c.is_wide) refl
-answers_after_told false c false = rw (narrow_after c.class c.is_wide) refl
+answers_after_as_read true c true = rw (narrow_after c.class c.is_wide) refl
+answers_after_as_read true c false = rw (narrow_after c.class c.is_wide) refl
+answers_after_as_read false c true = rw (narrow_after c.class c.is_wide) refl
+answers_after_as_read false c false = rw (narrow_after c.class c.is_wide) refl
 
 -- the symbol in the table represents everything that the rules read of the character
 pub symbol_shown : (p : Properties) (index symbol : ℕ) → index < 448 → line_answers p ≡ line_answers_at index → symbol ≡ get_or SYMBOLS index 0
-    → shown symbol ≡ told (character_by V15_0 p)
+    → shown symbol ≡ as_read (character_by V15_0 p)
 symbol_shown p index symbol lt is reads =
-    ap shown reads ∙ character_is _ _ (below 448 (λ i. is_character (shown (get_or SYMBOLS i 0)) (told (character_in V15_0 (line_answers_at i)))) symbols_are_right index lt)
-    ∙ ap (λ a. told (character_in V15_0 a)) (sym is)
+    ap shown reads ∙ character_is _ _ (below 448 (λ i. is_character (shown (get_or SYMBOLS i 0)) (as_read (character_in V15_0 (line_answers_at i)))) symbols_are_right index lt)
+    ∙ ap (λ a. as_read (character_in V15_0 a)) (sym is)
 
 pub symbol_below : (index symbol : ℕ) → index < 448 → symbol ≡ get_or SYMBOLS index 0 → symbol < SYMBOL_COUNT
 symbol_below index symbol lt = entries_below SYMBOLS SYMBOL_COUNT refl symbols_are_within index symbol

@@ -6,7 +6,7 @@ use Rattle.std.proofs.Math.ListN.{set}
 use Rattle.std.specs.List.{slice_get}
 use Rattle.std.proofs.lemmas.Bool.{cases_Bool}
 use Rattle.std.proofs.lemmas.List.{at_drop_more, drop_all, length-map, length-set, take_all, take_more_set}
-use Rattle.breaks.specs.Bases.{Base, Character, alone, joined, stays_with, bases_of, end_of, character}
+use Rattle.breaks.specs.Bases.{BaseCharacter, Character, alone, joined, stays_with, bases_of, end_of, character}
 use Rattle.breaks.specs.Marks.{marks_after, marks_of}
 use Rattle.breaks.specs.Passes.{Passes, bases_after, marks_by, with_attached}
 use Rattle.breaks.specs.Rules.{Rule, rules, rows_before_numbers, mark_by}
@@ -20,14 +20,14 @@ use Rattle.breaks.proofs.PassLemmas.{first_base}
 use Rattle.breaks.proofs.StepLemmas.{end_attached}
 
 -- the marks from the position after the base `last` on, by recursion over the characters
-abbrev pub walk : List Rule → List Base → Base → List Character → List Mark
+abbrev pub walk : List Rule → List BaseCharacter → BaseCharacter → List Character → List Mark
 walk rules others last [] = Must ∷ []
 walk rules others last (c ∷ text) =
     if stays_with (end_of last) c then Never ∷ walk rules others (with_attached last c) text
     else mark_by rules (last ∷ others) (bases_of (c ∷ text)) ∷ walk rules (last ∷ others) (alone c) text
 
 -- the bases that result if `last` replaces the first character of the first base
-abbrev grown : Base → List Base → List Base
+abbrev grown : BaseCharacter → List BaseCharacter → List BaseCharacter
 grown last [] = last ∷ []
 grown last (b ∷ bases) = record { first = last.first; attached = last.attached ++ b.attached } ∷ bases
 
@@ -36,20 +36,20 @@ abbrev nevers : List Character → List Mark
 nevers attached = map (λ _. Never) attached
 
 -- LB3: the mark after the last base is `Must`
-pub end_mark : (v : Version) (whole_numbers : Bool) (before : List Base) → mark_by (rules v whole_numbers) before [] ≡ Must
+pub end_mark : (v : Version) (whole_numbers : Bool) (before : List BaseCharacter) → mark_by (rules v whole_numbers) before [] ≡ Must
 unfolding rules rows_before_numbers
 end_mark V15_0 true before = refl
 end_mark V15_0 false before = refl
 end_mark V17_0 true before = refl
 end_mark V17_0 false before = refl
 
-grown_end : (last : Base) (end : Character) (bases : List Base) → grown last (alone end ∷ bases) ≡ last ∷ bases
+grown_end : (last : BaseCharacter) (end : Character) (bases : List BaseCharacter) → grown last (alone end ∷ bases) ≡ last ∷ bases
 grown_end last end bases = rw append-nil refl
 
 grown_alone : (c : Character) (text : List Character) → grown (alone c) (bases_of (c ∷ text)) ≡ bases_of (c ∷ text)
 grown_alone c text = rw (first_base c text).2 refl
 
-grown_attached : (last : Base) (c : Character) (text : List Character) (end : Character) → grown (with_attached last c) (bases_of (c ∷ text)) ≡ grown last (joined end (bases_of (c ∷ text)))
+grown_attached : (last : BaseCharacter) (c : Character) (text : List Character) (end : Character) → grown (with_attached last c) (bases_of (c ∷ text)) ≡ grown last (joined end (bases_of (c ∷ text)))
 grown_attached last c text end = rw ((first_base c text).2, append_assoc) refl
 
 nevers_attached : (attached : List Character) (c : Character) (marks : List Mark) → nevers attached ++ Never ∷ marks ≡ nevers (attached ++ c ∷ []) ++ marks
@@ -60,7 +60,7 @@ same_tail : (front : List Mark) (m n : Mark) (ms ns : List Mark) → m ≡ n →
 same_tail front m n ms ns mark marks = rw (mark, marks) refl
 
 -- the recursion from the base `last` on finds the marks of the bases
-walk_is : (v : Version) (whole_numbers : Bool) (others : List Base) (last : Base) (text : List Character) (end : Character)
+walk_is : (v : Version) (whole_numbers : Bool) (others : List BaseCharacter) (last : BaseCharacter) (text : List Character) (end : Character)
     → end_of last ≡ end → nevers last.attached ++ walk (rules v whole_numbers) others last text
     ≡ marks_after (rules v whole_numbers) others (grown last (bases_of (end ∷ text)))
 walk_is v whole_numbers others last [] end is =
@@ -79,7 +79,7 @@ walk_is v whole_numbers others last (c ∷ text) end is =
     ]
 
 -- the recursion over a text finds the marks of its bases
-pub walk_from : (v : Version) (whole_numbers : Bool) (others : List Base) (c : Character) (text : List Character)
+pub walk_from : (v : Version) (whole_numbers : Bool) (others : List BaseCharacter) (c : Character) (text : List Character)
     → walk (rules v whole_numbers) others (alone c) text ≡ marks_after (rules v whole_numbers) others (bases_of (c ∷ text))
 walk_from v whole_numbers others c text =
     walk_is v whole_numbers others (alone c) text c refl ∙ ap (marks_after (rules v whole_numbers) others) (grown_alone c text)
@@ -105,19 +105,19 @@ one_longer text x rest marks len is = omega (arith, ap length is)
 
 -- `stands` relates the state to the bases so far. The marks so far, followed by the marks of the recursion,
 -- are the marks of the whole text.
-abbrev pub Walks : List Rule → (Base → List Base → Type 0) → List Mark → List Character → List Mark → Type 0
+abbrev pub Walks : List Rule → (BaseCharacter → List BaseCharacter → Type 0) → List Mark → List Character → List Mark → Type 0
 Walks rules stands marks text whole =
-    (last : Base) × (others : List Base) × stands last others × (marks ++ walk rules others last text ≡ whole)
+    (last : BaseCharacter) × (others : List BaseCharacter) × stands last others × (marks ++ walk rules others last text ≡ whole)
 
-module _ (rules : List Rule) (stands : Base → List Base → Type 0) (mark_of : List Base → Mark) where
-  passes_on : (marks : List Mark) (mark : Mark) (c : Character) (text : List Character) (whole : List Mark) (last : Base) (others : List Base)
+module _ (rules : List Rule) (stands : BaseCharacter → List BaseCharacter → Type 0) (mark_of : List BaseCharacter → Mark) where
+  passes_on : (marks : List Mark) (mark : Mark) (c : Character) (text : List Character) (whole : List Mark) (last : BaseCharacter) (others : List BaseCharacter)
       → marks ++ walk rules others last (c ∷ text) ≡ whole → Passes rules mark_of stands last others c
       → mark ≡ mark_of (bases_after text) → Walks rules stands (marks ++ mark ∷ []) text whole
   passes_on marks mark c text whole last others so_far passes seen =
       elim (cases_Bool (stays_with (end_of last) c)) [
         | inl stays ↦
-            let stayed : ((rest : List Base) → mark_of rest ≡ Never) × stands (with_attached last c) others = rw stays at passes in
-            (with_attached last c, others, stayed.1, rw (append_assoc, seen ∙ stayed.0 (bases_after text)) (rw stays at so_far))
+            let on_stay : ((rest : List BaseCharacter) → mark_of rest ≡ Never) × stands (with_attached last c) others = rw stays at passes in
+            (with_attached last c, others, on_stay.1, rw (append_assoc, seen ∙ on_stay.0 (bases_after text)) (rw stays at so_far))
         | inr begins ↦
             let begun : ((text : List Character) → mark_of (bases_after text) ≡ mark_by rules (last ∷ others) (bases_of (c ∷ text)))
             × stands (alone c) (last ∷ others) = rw begins at passes in
@@ -129,9 +129,9 @@ module _ {X : Type 0} (read : X → Character) (rest : List X) (whole : List Mar
   here i x lt reads = at_drop_more (λ xs. xs) rest i x lt ∙ ap (λ y. y ∷ drop (i + 1) rest) (sym reads)
 
   -- `Walks` still holds after one step of the walk has written the mark at index i
-  pub steps : (before after : Base → List Base → Type 0) (mark_of : List Base → Mark) (i : ℕ) (x : X) (marks new : List Mark) (mark : Mark)
+  pub steps : (before after : BaseCharacter → List BaseCharacter → Type 0) (mark_of : List BaseCharacter → Mark) (i : ℕ) (x : X) (marks new : List Mark) (mark : Mark)
       → i < length rest → x ≡ get_or rest i x → Walks rules before (take i marks) (map read (drop i rest)) whole
-      → ((last : Base) (others : List Base) → before last others → Passes rules mark_of after last others (read x))
+      → ((last : BaseCharacter) (others : List BaseCharacter) → before last others → Passes rules mark_of after last others (read x))
       → mark ≡ mark_of (bases_after (map read (drop (i + 1) rest))) → take (i + 1) new ≡ take i marks ++ mark ∷ []
       → Walks rules after (take (i + 1) new) (map read (drop (i + 1) rest)) whole
   steps before after mark_of i x marks new mark lt reads (last, others, stands, so_far) passes seen written =
@@ -139,7 +139,7 @@ module _ {X : Type 0} (read : X → Character) (rest : List X) (whole : List Mar
       whole last others (rw (here i x lt reads) at so_far) (passes last others stands) seen)
 
   -- after the last character, the mark `Must` completes the list
-  pub ends : (stands : Base → List Base → Type 0) (i : ℕ) (marks : List Mark) → i ≡ length rest → length marks ≡ length rest + 1
+  pub ends : (stands : BaseCharacter → List BaseCharacter → Type 0) (i : ℕ) (marks : List Mark) → i ≡ length rest → length marks ≡ length rest + 1
       → Walks rules stands (take i marks) (map read (drop i rest)) whole → set marks (length rest) Must ≡ whole
   ends stands i marks last_place len (last, others, belongs, so_far) =
       let none : drop i rest ≡ [] = drop_all i rest (omega arith) in
@@ -154,17 +154,17 @@ module _ {X : Type 0} (read : X → Character) (rest : List X) (whole : List Mar
 -- one.
 module _ {X : Type 0} (read : X → Character) (rest : List X) where
   -- reading one more character turns the question `asked` into the question `answer`
-  pub asks_on : (asked answer : List Base → Mark) (i : ℕ) (x : X) (whole : Mark) → i < length rest → x ≡ get_or rest i x
+  pub asks_on : (asked answer : List BaseCharacter → Mark) (i : ℕ) (x : X) (whole : Mark) → i < length rest → x ≡ get_or rest i x
       → ((text : List Character) → asked (bases_after (read x ∷ text)) ≡ answer (bases_after text))
       → whole ≡ asked (bases_after (map read (drop i rest))) → whole ≡ answer (bases_after (map read (drop (i + 1) rest)))
   asks_on asked answer i x whole lt reads said so_far =
       so_far ∙ ap (λ xs. asked (bases_after (map read xs))) (here read rest [] [] i x lt reads) ∙ said (map read (drop (i + 1) rest))
 
-  pub ends_asking : (asked : List Base → Mark) (i : ℕ) → length rest ≤ i → asked (bases_after (map read (drop i rest))) ≡ asked []
+  pub ends_asking : (asked : List BaseCharacter → Mark) (i : ℕ) → length rest ≤ i → asked (bases_after (map read (drop i rest))) ≡ asked []
   ends_asking asked i ge = ap (λ xs. asked (bases_after (map read xs))) (drop_all i rest ge)
 
 -- the recursion finds one mark after `last` and one after each character of the text
-length-walk : (rs : List Rule) (others : List Base) (last : Base) (text : List Character) → length (walk rs others last text) ≡ suc (length text)
+length-walk : (rs : List Rule) (others : List BaseCharacter) (last : BaseCharacter) (text : List Character) → length (walk rs others last text) ≡ suc (length text)
 length-walk rs others last [] = refl
 length-walk rs others last (c ∷ text) =
     elim (cases_Bool (stays_with (end_of last) c)) [
@@ -180,7 +180,7 @@ length-marks t whole_numbers (c ∷ text) =
     ∙ length-walk (rules t.version whole_numbers) [] (alone (character t c)) (map (character t) text) ∙ ap suc (length-map text (character t))
 
 -- the last mark is `Must`
-last-walk : (rs : List Rule) (others : List Base) (last : Base) (text : List Character) → slice_get (walk rs others last text) (length text) ≡ Some Must
+last-walk : (rs : List Rule) (others : List BaseCharacter) (last : BaseCharacter) (text : List Character) → slice_get (walk rs others last text) (length text) ≡ Some Must
 last-walk rs others last [] = refl
 last-walk rs others last (c ∷ text) =
     elim (cases_Bool (stays_with (end_of last) c)) [

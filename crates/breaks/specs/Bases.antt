@@ -56,7 +56,7 @@ character t c = record {
 }
 
 -- a base: a character, and the combining marks and ZWJs that join it
-pub record Base : Type 0 where
+pub record BaseCharacter : Type 0 where
   pub first : Character
   pub attached : List Character
 
@@ -66,17 +66,17 @@ stays_with before c =
     is_one_of (CM ∷ ZWJ ∷ []) c.class && not (is_one_of (BK ∷ CR ∷ LF ∷ NL ∷ SP ∷ ZW ∷ []) before.class)
 
 -- a character as a base of its own
-abbrev pub alone : Character → Base
+abbrev pub alone : Character → BaseCharacter
 alone c = record { first = c; attached = [] }
 
 -- Adds a character in front of a list of bases. The character becomes the new first character of the first
 -- base, or the only base if the list is empty.
-abbrev pub joined : Character → List Base → List Base
+abbrev pub joined : Character → List BaseCharacter → List BaseCharacter
 joined c [] = alone c ∷ []
 joined c (b ∷ bases) = record { first = c; attached = b.first ∷ b.attached } ∷ bases
 
 -- the bases of a list of characters
-abbrev pub bases_of : List Character → List Base
+abbrev pub bases_of : List Character → List BaseCharacter
 bases_of [] = []
 bases_of (a ∷ []) = alone a ∷ []
 bases_of (a ∷ b ∷ text) = if stays_with a b then joined a (bases_of (b ∷ text)) else alone a ∷ bases_of (b ∷ text)
@@ -88,11 +88,11 @@ base_class CM = AL
 base_class ZWJ = AL
 base_class class = class
 
-abbrev pub class_of : Base → LineClass
+abbrev pub class_of : BaseCharacter → LineClass
 class_of b = base_class b.first.class
 
 -- whether a base has East Asian width F, W or H; a CM or ZWJ that LB10 treats as AL does not count as wide
-abbrev pub is_east_asian : Base → Bool
+abbrev pub is_east_asian : BaseCharacter → Bool
 is_east_asian b = b.first.is_wide && not (is_one_of (CM ∷ ZWJ ∷ []) b.first.class)
 
 -- the last character of a base
@@ -100,5 +100,5 @@ abbrev pub last_of : Character → List Character → Character
 last_of first [] = first
 last_of first (c ∷ attached) = last_of c attached
 
-abbrev pub end_of : Base → Character
+abbrev pub end_of : BaseCharacter → Character
 end_of b = last_of b.first b.attached

@@ -4,7 +4,7 @@ use Rattle.std.specs.Prelude.{Bool, true, false, ◌&&◌, List, [], ◌∷◌, 
 use Rattle.std.specs.List.{list_any}
 use Rattle.ucd.specs.declared.line_class.LineClass.{LineClass}
 use Rattle.ucd.specs.declared.line_class.LineClass.TheVariants.{CL, CP, HY, IS, NU, OP, PO, PR, SY}
-use Rattle.breaks.specs.Bases.{Base, class_of}
+use Rattle.breaks.specs.Bases.{BaseCharacter, class_of}
 use Rattle.breaks.specs.Classes.{is_same, is_one_of}
 
 -- the classes in each part of a number
@@ -61,6 +61,6 @@ fronts (a ∷ rest) = (a ∷ []) ∷ map (λ front. a ∷ front) (fronts rest)
 
 -- whether a position is inside a number: one or more bases directly before it (`before`, nearest first) and
 -- one or more directly after it form a number
-abbrev pub is_in_number : List Base → List Base → Bool
+abbrev pub is_in_number : List BaseCharacter → List BaseCharacter → Bool
 is_in_number before after =
     list_any (λ front. list_any (λ back. is_number (map class_of (reverse front ++ back))) (fronts after)) (fronts before)

@@ -3,7 +3,7 @@ use Rattle.std.specs.Prelude.{◌≡◌, Bool, List, [], ◌∷◌, ◌++◌, Ma
 use Rattle.ucd.specs.declared.line_class.LineClass.TheVariants.{CM, ZWJ}
 use Rattle.ucd.specs.declared.properties.Properties.{Properties}
 use Rattle.ucd.specs.declared.version.Version.{Version}
-use Rattle.breaks.specs.Bases.{Base, Character, alone, bases_of, end_of, stays_with}
+use Rattle.breaks.specs.Bases.{BaseCharacter, Character, alone, bases_of, end_of, stays_with}
 use Rattle.breaks.specs.Classes.{is_one_of}
 use Rattle.breaks.specs.Marks.{marks_after}
 use Rattle.breaks.specs.Rules.{Rule, mark_by, rules}
@@ -12,21 +12,21 @@ use Rattle.breaks.specs.declared.mark.Mark.{Mark}
 use Rattle.breaks.specs.declared.mark.Mark.TheVariants.{Never}
 
 -- the last base after the next character has been attached to it
-abbrev pub with_attached : Base → Character → Base
+abbrev pub with_attached : BaseCharacter → Character → BaseCharacter
 with_attached last c = record { first = last.first; attached = last.attached ++ c ∷ [] }
 
 -- the bases of a text, without the leading CMs and ZWJs that join the base before the text
-abbrev pub bases_after : List Character → List Base
+abbrev pub bases_after : List Character → List BaseCharacter
 bases_after [] = []
 bases_after (c ∷ text) = if is_one_of (CM ∷ ZWJ ∷ []) c.class then bases_after text else bases_of (c ∷ text)
 
 -- The outcome before the character c has the mark that the rules determine. The new state belongs to the
 -- bases up to and including that of c. `mark` returns the outcome's mark, given the bases after that of c.
 -- `stands` tells whether the new state belongs to given bases.
-abbrev pub Passes : List Rule → (List Base → Mark) → (Base → List Base → Type 0) → Base → List Base → Character → Type 0
+abbrev pub Passes : List Rule → (List BaseCharacter → Mark) → (BaseCharacter → List BaseCharacter → Type 0) → BaseCharacter → List BaseCharacter → Character → Type 0
 Passes some mark stands last others c =
     MatchBool (stays_with (end_of last) c)
-    (((rest : List Base) → mark rest ≡ Never) × stands (with_attached last c) others)
+    (((rest : List BaseCharacter) → mark rest ≡ Never) × stands (with_attached last c) others)
     (((text : List Character) → mark (bases_after text) ≡ mark_by some (last ∷ others) (bases_of (c ∷ text)))
     × stands (alone c) (last ∷ others))
 

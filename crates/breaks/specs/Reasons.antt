@@ -5,7 +5,7 @@ use Rattle.ucd.specs.declared.line_class.LineClass.TheVariants.{ZWJ}
 use Rattle.ucd.specs.declared.tables.Tables.{Tables}
 use Rattle.ucd.specs.declared.version.Version.{Version}
 use Rattle.ucd.specs.declared.version.Version.TheVariants.{V15_0, V17_0}
-use Rattle.breaks.specs.Bases.{Base, Character, bases_of, character, class_of}
+use Rattle.breaks.specs.Bases.{BaseCharacter, Character, bases_of, character, class_of}
 use Rattle.breaks.specs.Classes.{is_same}
 use Rattle.breaks.specs.Rules.{Row, Rule, mark_by, rule_of, rules, without_spaces}
 use Rattle.breaks.specs.declared.mark.Mark.TheVariants.{Never}
@@ -73,30 +73,30 @@ names v whole_numbers =
 -- ---- The reasons
 
 -- the name of the first rule that applies, or `None` if none does
-abbrev pub first_by : List LineRule → List Rule → List Base → List Base → Option LineRule
+abbrev pub first_by : List LineRule → List Rule → List BaseCharacter → List BaseCharacter → Option LineRule
 first_by [] rules before after = None
 first_by (name ∷ names) [] before after = None
 first_by (name ∷ names) (rule ∷ rules) before after = if rule.holds before after then Some name else first_by names rules before after
 
-abbrev pub first_row : List LineRule → List Row → List Base → List Base → Option LineRule
+abbrev pub first_row : List LineRule → List Row → List BaseCharacter → List BaseCharacter → Option LineRule
 first_row names rows before after = first_by names (map rule_of rows) before after
 
 -- the number of characters in some bases
-abbrev pub chars_in : List Base → ℕ
+abbrev pub chars_in : List BaseCharacter → ℕ
 chars_in [] = 0
 chars_in (b ∷ bases) = chars_in bases + (length b.attached + 1)
 
 -- the index of the first character of the nearest base, or `None` if there are no bases
-abbrev pub start_of : List Base → Option ℕ
+abbrev pub start_of : List BaseCharacter → Option ℕ
 start_of [] = None
 start_of (b ∷ bases) = Some (chars_in bases)
 
 -- the class of the nearest base, or `None` if there are no bases
-abbrev pub next_class : List Base → Option LineClass
+abbrev pub next_class : List BaseCharacter → Option LineClass
 next_class bases = option_map class_of (slice_get bases 0)
 
 -- the reason for the mark after the base b, given the bases before and after b
-abbrev pub reason_at : List LineRule → List Rule → Base → List Base → List Base → Reason
+abbrev pub reason_at : List LineRule → List Rule → BaseCharacter → List BaseCharacter → List BaseCharacter → Reason
 reason_at names rules b before after = record {
   rule = unwrap_or (first_by names rules (b ∷ before) after) LB31;
   base = chars_in before;
@@ -121,13 +121,13 @@ reasons_inside start class behind c (d ∷ attached) =
     } ∷ reasons_inside start class behind d attached
 
 -- the reasons for the marks after the characters of a base, given the bases before and after it
-abbrev pub base_reasons : List LineRule → List Rule → Base → List Base → List Base → List Reason
+abbrev pub base_reasons : List LineRule → List Rule → BaseCharacter → List BaseCharacter → List BaseCharacter → List Reason
 base_reasons names rules b before after =
     reasons_inside (chars_in before) (class_of b) (start_of (without_spaces (b ∷ before))) b.first b.attached
     ++ reason_at names rules b before after ∷ []
 
 -- the reasons for the marks after the characters of some bases, given the bases before them
-abbrev pub reasons_after : List LineRule → List Rule → List Base → List Base → List Reason
+abbrev pub reasons_after : List LineRule → List Rule → List BaseCharacter → List BaseCharacter → List Reason
 reasons_after names rules before [] = []
 reasons_after names rules before (b ∷ after) = base_reasons names rules b before after ++ reasons_after names rules (b ∷ before) after
 

@@ -10,7 +10,7 @@ use Rattle.ucd.specs.declared.line_detail.LineDetail.{LineDetail}
 use Rattle.ucd.specs.declared.line_detail.LineDetail.TheVariants.{DottedCircle, Final, Initial}
 use Rattle.ucd.specs.declared.version.Version.{Version}
 use Rattle.ucd.specs.declared.version.Version.TheVariants.{V15_0, V17_0}
-use Rattle.breaks.specs.Bases.{Base, class_of, end_of, is_east_asian}
+use Rattle.breaks.specs.Bases.{BaseCharacter, class_of, end_of, is_east_asian}
 use Rattle.breaks.specs.Classes.{is_detail, is_same, is_one_of}
 use Rattle.breaks.specs.Numbers.{is_in_number}
 use Rattle.breaks.specs.declared.mark.Mark.{Mark}
@@ -19,125 +19,125 @@ use Rattle.breaks.specs.declared.mark.Mark.TheVariants.{Never, May, Must}
 -- A rule: a condition on the bases before a position, nearest first, and on the bases after that position;
 -- and the mark if the condition holds.
 pub record Rule : Type 0 where
-  pub holds : List Base → List Base → Bool
+  pub holds : List BaseCharacter → List BaseCharacter → Bool
   pub mark : Mark
 
 -- the form of most rules: a condition on the bases before a position, and another on the bases after it
 pub record Row : Type 0 where
-  pub before : List Base → Bool
-  pub after : List Base → Bool
+  pub before : List BaseCharacter → Bool
+  pub after : List BaseCharacter → Bool
   pub mark : Mark
 
 abbrev pub rule_of : Row → Rule
 rule_of row = record { holds = λ before after. row.before before && row.after after; mark = row.mark }
 
 -- a row for `×`
-abbrev pub never : (List Base → Bool) → (List Base → Bool) → Row
+abbrev pub never : (List BaseCharacter → Bool) → (List BaseCharacter → Bool) → Row
 never before after = record { before = before; after = after; mark = Never }
 
 -- a row for `÷`
-abbrev may : (List Base → Bool) → (List Base → Bool) → Row
+abbrev may : (List BaseCharacter → Bool) → (List BaseCharacter → Bool) → Row
 may before after = record { before = before; after = after; mark = May }
 
 -- a row for `!`
-abbrev must : (List Base → Bool) → (List Base → Bool) → Row
+abbrev must : (List BaseCharacter → Bool) → (List BaseCharacter → Bool) → Row
 must before after = record { before = before; after = after; mark = Must }
 
 -- the condition that is always true
-abbrev pub any : List Base → Bool
+abbrev pub any : List BaseCharacter → Bool
 any bases = true
 
 -- the condition that is true if there are no bases
-abbrev pub none : List Base → Bool
+abbrev pub none : List BaseCharacter → Bool
 none [] = true
 none (b ∷ bases) = false
 
 -- whether the nearest base has one of the classes
-abbrev pub is : List LineClass → List Base → Bool
+abbrev pub is : List LineClass → List BaseCharacter → Bool
 is classes [] = false
 is classes (b ∷ bases) = is_one_of classes (class_of b)
 
 -- whether the nearest base has one of the classes and is not wide
-abbrev pub is_narrow : List LineClass → List Base → Bool
+abbrev pub is_narrow : List LineClass → List BaseCharacter → Bool
 is_narrow classes [] = false
 is_narrow classes (b ∷ bases) = is_one_of classes (class_of b) && not b.first.is_wide
 
 -- whether there is a nearest base, and it has none of the classes
-abbrev pub is_not : List LineClass → List Base → Bool
+abbrev pub is_not : List LineClass → List BaseCharacter → Bool
 is_not classes [] = false
 is_not classes (b ∷ bases) = not (is_one_of classes (class_of b))
 
 -- whether the nearest base has one of `classes`, and the base before it has one of `firsts`
-abbrev pub is_pair : List LineClass → List LineClass → List Base → Bool
+abbrev pub is_pair : List LineClass → List LineClass → List BaseCharacter → Bool
 is_pair firsts classes (b ∷ a ∷ bases) = is_one_of firsts (class_of a) && is_one_of classes (class_of b)
 is_pair firsts classes bases = false
 
 -- the bases without the spaces that directly adjoin the position
-abbrev pub without_spaces : List Base → List Base
+abbrev pub without_spaces : List BaseCharacter → List BaseCharacter
 without_spaces [] = []
 without_spaces (b ∷ bases) = if is_same (class_of b) SP then without_spaces bases else b ∷ bases
 
 -- whether the nearest base that is not a space has one of the classes; UAX #14 writes this condition as the
 -- class followed by `SP*`
-abbrev pub is_spaced : List LineClass → List Base → Bool
+abbrev pub is_spaced : List LineClass → List BaseCharacter → Bool
 is_spaced classes bases = is classes (without_spaces bases)
 
 -- whether the bases without the spaces that adjoin the position meet the condition; UAX #14 writes these
 -- spaces as `SP*`
-abbrev pub spaced : (List Base → Bool) → List Base → Bool
+abbrev pub spaced : (List BaseCharacter → Bool) → List BaseCharacter → Bool
 spaced condition bases = condition (without_spaces bases)
 
 -- whether there are bases, they meet `first`, and the bases beyond the nearest one meet `others`
-abbrev pub followed : (List Base → Bool) → (List Base → Bool) → List Base → Bool
+abbrev pub followed : (List BaseCharacter → Bool) → (List BaseCharacter → Bool) → List BaseCharacter → Bool
 followed first others [] = false
 followed first others (b ∷ bases) = first (b ∷ bases) && others bases
 
 -- whether the condition holds or there are no bases; for rules that list `sot` or `eot` as well as classes
-abbrev pub or_edge : (List Base → Bool) → List Base → Bool
+abbrev pub or_edge : (List BaseCharacter → Bool) → List BaseCharacter → Bool
 or_edge condition [] = true
 or_edge condition (b ∷ bases) = condition (b ∷ bases)
 
 -- whether there is a nearest base, and it is not wide (East Asian width F, W or H)
-abbrev pub is_not_east_asian : List Base → Bool
+abbrev pub is_not_east_asian : List BaseCharacter → Bool
 is_not_east_asian [] = false
 is_not_east_asian (b ∷ bases) = not (is_east_asian b)
 
 -- whether the nearest base is QU with this detail
-abbrev pub is_quote : LineDetail → List Base → Bool
+abbrev pub is_quote : LineDetail → List BaseCharacter → Bool
 is_quote detail [] = false
 is_quote detail (b ∷ bases) = is_same (class_of b) QU && is_detail b.first.detail detail
 
 -- whether the nearest base is QU with a detail other than this one
-abbrev pub is_quote_but : LineDetail → List Base → Bool
+abbrev pub is_quote_but : LineDetail → List BaseCharacter → Bool
 is_quote_but detail [] = false
 is_quote_but detail (b ∷ bases) = is_same (class_of b) QU && not (is_detail b.first.detail detail)
 
 -- whether a base is U+25CC with class AL
-abbrev pub is_dotted_circle : Base → Bool
+abbrev pub is_dotted_circle : BaseCharacter → Bool
 is_dotted_circle b = is_same b.first.class AL && is_detail b.first.detail DottedCircle
 
 -- whether the nearest base is a letter of a Brahmic script in the sense of LB28a: U+25CC, or a base of one of
 -- the classes (AK and, in most conditions, AS)
-abbrev pub is_aksara : List LineClass → List Base → Bool
+abbrev pub is_aksara : List LineClass → List BaseCharacter → Bool
 is_aksara classes [] = false
 is_aksara classes (b ∷ bases) = is_one_of classes (class_of b) || is_dotted_circle b
 
 -- whether the bases before a position end in a number, `NU ( SY | IS )*`
-abbrev pub ends_in_number : List Base → Bool
+abbrev pub ends_in_number : List BaseCharacter → Bool
 ends_in_number [] = false
 ends_in_number (b ∷ bases) = is_same (class_of b) NU || (is_one_of (IS ∷ SY ∷ []) (class_of b) && ends_in_number bases)
 
 -- whether the character directly before the position is a ZWJ
-abbrev pub ends_in_zwj : List Base → Bool
+abbrev pub ends_in_zwj : List BaseCharacter → Bool
 ends_in_zwj [] = false
 ends_in_zwj (b ∷ bases) = is_same (end_of b).class ZWJ
 
 -- whether the run of RI before the position has an odd length
-abbrev pub ends_in_odd_run : List Base → Bool
+abbrev pub ends_in_odd_run : List BaseCharacter → Bool
 ends_in_odd_run bases = prefix_len (λ b. is_same (class_of b) RI) bases % 2 == 1
 
 -- whether the nearest base is Extended_Pictographic and unassigned
-abbrev pub is_future_pictograph : List Base → Bool
+abbrev pub is_future_pictograph : List BaseCharacter → Bool
 is_future_pictograph [] = false
 is_future_pictograph (b ∷ bases) = b.first.is_future_pictograph
 
@@ -191,7 +191,7 @@ before_initial = BK ∷ CR ∷ GL ∷ LF ∷ NL ∷ SP ∷ ZW ∷ OP ∷ QU ∷ 
 abbrev pub after_final : List LineClass
 after_final = BK ∷ CR ∷ GL ∷ LF ∷ NL ∷ SP ∷ WJ ∷ ZW ∷ CL ∷ CP ∷ EX ∷ QU ∷ IS ∷ SY ∷ []
 
-abbrev pub begins_quotation : List Base → Bool
+abbrev pub begins_quotation : List BaseCharacter → Bool
 begins_quotation = followed (is_quote Initial) (or_edge (is before_initial))
 
 abbrev pub LB15 : Version → List Row
@@ -349,6 +349,6 @@ unfoldable pub rules : Version → Bool → List Rule
 rules v whole_numbers = map rule_of (rows_before_numbers v) ++ (numbers v whole_numbers ++ map rule_of (rows_after_numbers v))
 
 -- the mark of the first rule that applies, or `May` if none does (LB31)
-abbrev pub mark_by : List Rule → List Base → List Base → Mark
+abbrev pub mark_by : List Rule → List BaseCharacter → List BaseCharacter → Mark
 mark_by [] before after = May
 mark_by (rule ∷ rules) before after = if rule.holds before after then rule.mark else mark_by rules before after

@@ -24,8 +24,8 @@ character_by v p = character_in v (line_answers p)
 
 -- The part of a character that the rules of 15.0 read. LB30 needs the width only for parentheses. LB30b reads
 -- the pictograph property only of the base before a position, and the walk records that property.
-abbrev pub told : Character → Character
-told c = record {
+abbrev pub as_read : Character → Character
+as_read c = record {
   class = c.class;
   detail = Plain;
   is_wide = is_one_of (class.CP ∷ class.OP ∷ []) c.class && c.is_wide;
@@ -90,8 +90,8 @@ shown number = get_or symbols number (narrow class.XX)
 
 -- The part of a character that the rules of 17.0 read, except for two properties. The walk records these: the
 -- width of its base (LB19a), and whether it is a future pictograph (LB30b). Only QU and AL have a detail.
-abbrev pub told_17 : Character → Character
-told_17 c = record {
+abbrev pub as_read_17 : Character → Character
+as_read_17 c = record {
   class = c.class;
   detail = if is_one_of (class.QU ∷ class.AL ∷ []) c.class then c.detail else Plain;
   is_wide = is_one_of (class.CP ∷ class.OP ∷ []) c.class && c.is_wide;

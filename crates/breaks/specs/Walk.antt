@@ -6,7 +6,7 @@ use Rattle.ucd.specs.declared.line_class.LineClass.{LineClass}
 use Rattle.ucd.specs.declared.line_class.LineClass.TheVariants as class
 use Rattle.ucd.specs.declared.properties.Properties.{Properties}
 use Rattle.ucd.specs.declared.version.Version.TheVariants.{V15_0}
-use Rattle.breaks.specs.Bases.{Base, alone, class_of, end_of}
+use Rattle.breaks.specs.Bases.{BaseCharacter, alone, class_of, end_of}
 use Rattle.breaks.specs.Classes.{is_same, is_one_of}
 use Rattle.breaks.specs.Numbers.{affix, closing, middle, opening}
 use Rattle.breaks.specs.Rules.{Row, rows_before_numbers, rows_of_numbers, rows_after_numbers, never, is, is_spaced, ends_in_odd_run}
@@ -18,11 +18,11 @@ use Rattle.breaks.specs.declared.walk.TheConstants.{MARKS, WHOLE_MARKS}
 use Rattle.breaks.specs.declared.walk.Walk15.{Walk15}
 use Rattle.breaks.specs.declared.symbol.TheConstants.{SYMBOL_COUNT}
 
-abbrev pub base : LineClass → Base
+abbrev pub base : LineClass → BaseCharacter
 base class = alone (narrow class)
 
 -- the example bases of the states from NU to NumberCP, which both versions have; 15.0 has no later states
-abbrev pub last_states : List (List Base)
+abbrev pub last_states : List (List BaseCharacter)
 last_states =
     (base class.NU ∷ []) ∷
     (base class.AL ∷ []) ∷
@@ -43,7 +43,7 @@ last_states =
     []
 
 -- Example bases for each state, in the order of the states. The nearest base comes first.
-abbrev pub states : List (List Base)
+abbrev pub states : List (List BaseCharacter)
 states =
     ((base class.BK ∷ []) ∷
     (base class.CR ∷ []) ∷
@@ -73,7 +73,7 @@ states =
     [])
     ++ last_states
 
-abbrev pub bases_at : ℕ → List Base
+abbrev pub bases_at : ℕ → List BaseCharacter
 bases_at number = get_or states number []
 
 -- the outcome once LB8a and LB30b have been applied, given whether the last character is a ZWJ, and whether
@@ -100,7 +100,7 @@ mark_of whole_numbers decided before_digit =
     if whole_numbers && ((decided == WAITS) && before_digit) then Never else get_or (marks_alone whole_numbers) decided Never
 
 -- the mark of an outcome, given the bases after the next one
-abbrev pub mark_given : Bool → ℕ → List Base → Mark
+abbrev pub mark_given : Bool → ℕ → List BaseCharacter → Mark
 mark_given whole_numbers decided rest = mark_of whole_numbers decided (is (class.NU ∷ []) rest)
 
 -- LB9: the classes to which no CM or ZWJ is attached
@@ -109,15 +109,15 @@ unattached = class.BK ∷ class.CR ∷ class.LF ∷ class.NL ∷ class.SP ∷ cl
 
 -- LB25 with whole numbers: for each position inside the expression, the conditions on the bases before and
 -- after that position
-abbrev pub ends_in_digits : List Base → Bool
+abbrev pub ends_in_digits : List BaseCharacter → Bool
 ends_in_digits [] = false
 ends_in_digits (b ∷ bases) = is_same (class_of b) class.NU || (is_one_of middle (class_of b) && ends_in_digits bases)
 
-abbrev pub ends_in_closed_digits : List Base → Bool
+abbrev pub ends_in_closed_digits : List BaseCharacter → Bool
 ends_in_closed_digits [] = false
 ends_in_closed_digits (b ∷ bases) = is_one_of closing (class_of b) && ends_in_digits bases
 
-abbrev pub begins_unaffixed : List Base → Bool
+abbrev pub begins_unaffixed : List BaseCharacter → Bool
 begins_unaffixed [] = false
 begins_unaffixed (b ∷ bases) = is_same (class_of b) class.NU || (is_one_of opening (class_of b) && is (class.NU ∷ []) bases)
 
@@ -138,18 +138,18 @@ unfoldable pub rows : Bool → List Row
 rows whole_numbers = rows_before_numbers V15_0 ++ (number_rows whole_numbers ++ rows_after_numbers V15_0)
 
 -- the bases, with the nearest one changed so that LB8a and the part of LB30b on pictographs do not apply to it
-abbrev pub plain : List Base → List Base
+abbrev pub plain : List BaseCharacter → List BaseCharacter
 plain [] = []
 plain (b ∷ bases) = record { first = record b.first { is_future_pictograph = false }; attached = narrow class.CM ∷ [] } ∷ bases
 
 -- the result of each rule's condition on the bases before a position; the conditions of LB8a, and of LB30b for
 -- pictographs, count as false
-abbrev pub answers : Bool → List Base → List Bool
+abbrev pub answers : Bool → List BaseCharacter → List Bool
 answers whole_numbers bases = map (λ row. row.before (plain bases)) (rows whole_numbers)
 
 -- The results of further conditions, on which the rules may depend once one more base has been read. They are
 -- about hyphens after HL, and about runs of spaces, RI and numbers.
-abbrev pub carried : List Base → List Bool
+abbrev pub carried : List BaseCharacter → List Bool
 carried bases =
     is (class.HL ∷ []) bases
     ∷ is_spaced (class.ZW ∷ []) bases ∷ is_spaced (class.OP ∷ []) bases ∷ is_spaced (class.QU ∷ []) bases
@@ -159,7 +159,7 @@ carried bases =
 -- The state `walk` belongs to the bases `last` and `others`, the nearest first. A character may still join
 -- `last`. The row of `walk` belongs to a state whose example bases have the same `answers` and `carried`. The
 -- two bits of `walk` describe `last`.
-pub record Stands (whole_numbers : Bool) (walk : Walk15) (last : Base) (others : List Base) : Type 0 where
+pub record Stands (whole_numbers : Bool) (walk : Walk15) (last : BaseCharacter) (others : List BaseCharacter) : Type 0 where
   pub state : ℕ
   pub below : state < STATE_COUNT
   pub row : walk.row ≡ state * SYMBOL_COUNT

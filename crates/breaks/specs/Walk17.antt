@@ -6,7 +6,7 @@ use Rattle.ucd.specs.declared.line_class.LineClass.TheVariants as class
 use Rattle.ucd.specs.declared.line_detail.LineDetail.TheVariants.{Final, Initial}
 use Rattle.ucd.specs.declared.properties.Properties.{Properties}
 use Rattle.ucd.specs.declared.version.Version.TheVariants.{V17_0}
-use Rattle.breaks.specs.Bases.{Base, alone, end_of, is_east_asian}
+use Rattle.breaks.specs.Bases.{BaseCharacter, alone, end_of, is_east_asian}
 use Rattle.breaks.specs.Classes.{is_same, is_one_of}
 use Rattle.breaks.specs.Rules.{Row, rows_before_numbers, rows_of_numbers, rows_after_numbers, after_final, before_initial, before_word, begins_quotation, ends_in_number, ends_in_odd_run, followed, is, is_aksara, is_not_east_asian, is_spaced, or_edge, spaced}
 use Rattle.breaks.specs.Symbols.{character_by, dotted_circle, quote}
@@ -19,7 +19,7 @@ use Rattle.breaks.specs.declared.walk_17.Walk17.{Walk17}
 use Rattle.breaks.specs.declared.symbol_17.TheConstants.{SYMBOL_COUNT}
 
 -- Example bases for each state, in the order of the states. The nearest base comes first.
-abbrev pub states_17 : List (List Base)
+abbrev pub states_17 : List (List BaseCharacter)
 states_17 =
     ((base class.BK ∷ []) ∷
     (base class.CR ∷ []) ∷
@@ -58,7 +58,7 @@ states_17 =
     (base class.VI ∷ base class.AK ∷ []) ∷
     []))
 
-abbrev pub bases_at_17 : ℕ → List Base
+abbrev pub bases_at_17 : ℕ → List BaseCharacter
 bases_at_17 number = get_or states_17 number []
 
 -- the bits of a walk: whether the last character is a ZWJ, whether the last base is a future pictograph, and
@@ -70,11 +70,11 @@ pub record Bits : Type 0 where
   pub was_wide : Bool
 
 -- whether there is a nearest base, and it is wide
-abbrev pub is_wide_base : List Base → Bool
+abbrev pub is_wide_base : List BaseCharacter → Bool
 is_wide_base [] = false
 is_wide_base (b ∷ bases) = is_east_asian b
 
-abbrev pub bits_of : Base → List Base → Bits
+abbrev pub bits_of : BaseCharacter → List BaseCharacter → Bits
 bits_of last others = record {
   is_joined = is_same (end_of last).class class.ZWJ;
   is_pictograph = last.first.is_future_pictograph;
@@ -95,12 +95,12 @@ decided_17 outcome bits next_is_wide =
     else outcome
 
 -- whether the nearest base is IS and the base beyond it is NU
-abbrev pub is_stop_digit : List Base → Bool
+abbrev pub is_stop_digit : List BaseCharacter → Bool
 is_stop_digit = followed (is (class.IS ∷ [])) (is (class.NU ∷ []))
 
 -- The mark of an outcome, given the bases after the next one. The outcomes that are marks come first, beginning with
 -- the outcome of LB9. Then come the questions of LB15b, LB15c, LB19a, LB25 (after `OP`, and after `OP IS`) and LB28a.
-abbrev pub marks_17 : List Base → List Mark
+abbrev pub marks_17 : List BaseCharacter → List Mark
 marks_17 rest =
     Never ∷ Never ∷ May ∷ Must ∷
     (if or_edge (is after_final) rest then Never else May) ∷
@@ -111,7 +111,7 @@ marks_17 rest =
     (if is (class.VF ∷ []) rest then Never else May) ∷
     []
 
-abbrev pub mark_of_17 : ℕ → List Base → Mark
+abbrev pub mark_of_17 : ℕ → List BaseCharacter → Mark
 mark_of_17 decided rest = get_or (marks_17 rest) decided Never
 
 -- an answer from the table, with `LB19A` replaced by `MAY` for a wide base and by `NEVER` for any other base
@@ -138,7 +138,7 @@ LB30b_row = 61
 -- The result of each rule's condition on these bases. The conditions of LB8a, of the first rule of LB19a, and
 -- of LB30b for pictographs depend on the bits of a walk, and count as false. In the last rule of LB19a, the
 -- base before the last one counts as narrow.
-abbrev pub answers_17 : List Base → List Bool
+abbrev pub answers_17 : List BaseCharacter → List Bool
 answers_17 bases =
     set (set (set (set (map (λ row. row.before bases) rows_17) LB8a_row false) LB19a_first_row false) LB19a_last_row (is (class.QU ∷ []) bases))
     LB30b_row false
@@ -151,7 +151,7 @@ answered_17 bits answers =
     LB30b_row bits.is_pictograph
 
 -- the results of further conditions, on which the rules may depend once one more base has been read
-abbrev pub carried_17 : List Base → List Bool
+abbrev pub carried_17 : List BaseCharacter → List Bool
 carried_17 bases =
     is (class.HL ∷ []) bases
     ∷ is_spaced (class.ZW ∷ []) bases ∷ is_spaced (class.OP ∷ []) bases ∷ spaced begins_quotation bases
@@ -199,7 +199,7 @@ abbrev pub full_walk : OrdinaryWalk17 → Walk17
 full_walk walk = record { row = walk.row; is_joined = false; is_pictograph = false; is_wide = begins_wide walk.last; was_wide = begins_wide_if_any walk.before }
 
 -- The state `walk` belongs to the bases `last` and `others`, the nearest first. A character may still join `last`.
-pub record Stands17 (walk : Walk17) (last : Base) (others : List Base) : Type 0 where
+pub record Stands17 (walk : Walk17) (last : BaseCharacter) (others : List BaseCharacter) : Type 0 where
   pub state : ℕ
   pub below : state < STATE_COUNT
   pub row : walk.row ≡ state * SYMBOL_COUNT

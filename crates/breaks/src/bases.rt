@@ -23,7 +23,7 @@ pub struct Character {
 
 /// A base: a character, and the combining marks and ZWJs that join it.
 #[derive(Clone, Copy)]
-pub struct Base<'a> {
+pub struct BaseCharacter<'a> {
     pub first: Character,
     pub attached: &'a [Character],
 }
@@ -149,14 +149,14 @@ fn attached_len(first: Character, rest: &[Character]) -> usize
 }
 
 /// Returns the bases of a paragraph.
-pub fn bases(alloc: Global, characters: &[Character]) -> Result<Vec<Base<'_>>, AllocError>
+pub fn bases(alloc: Global, characters: &[Character]) -> Result<Vec<BaseCharacter<'_>>, AllocError>
     ensures { IfOk result (λ list. map base_in list.items ≡ bases_of (map character_in characters.now)) }
 {
     let mut list = Vec::new(alloc);
     let mut left = characters;
     while let Some((first, rest)) = left.split_first() {
         let (attached, others) = rest.split_at(attached_len(*first, rest));
-        list.push(Base {
+        list.push(BaseCharacter {
             first: *first,
             attached,
         })?;
@@ -165,7 +165,7 @@ pub fn bases(alloc: Global, characters: &[Character]) -> Result<Vec<Base<'_>>, A
     Ok(list)
 }
 
-impl Base<'_> {
+impl BaseCharacter<'_> {
     /// Returns the class of the base: that of its first character, or AL for a CM or ZWJ (LB10).
     pub fn class(&self) -> LineClass
         ensures { result ≡ class_of (base_in self.now) }

@@ -8,7 +8,7 @@ ghost use Rattle.breaks.specs.Seen.{base_in};
 ghost use Rattle.breaks.specs.Walk.{ends_in_closed_digits};
 ghost use Rattle.ucd.specs.declared.line_class.LineClass.TheVariants.{CL, CP};
 
-use crate::bases::{Base, is_one_of};
+use crate::bases::{BaseCharacter, is_one_of};
 use crate::conditions::{begins_unaffixed, is};
 use std::marker::Model;
 use ucd::LineClass;
@@ -16,7 +16,7 @@ use ucd::LineClass;
 /// The bases before a position, the nearest first.
 #[derive(Drop)]
 pub struct Before<'b, 'a> {
-    pub bases: &'b [Base<'a>],
+    pub bases: &'b [BaseCharacter<'a>],
     // How many spaces directly precede the position.
     spaces: usize,
     // Where the base before these spaces starts, or `None` if there is none.
@@ -31,13 +31,13 @@ pub struct Before<'b, 'a> {
 
 impl<'b, 'a> Model for Before<'b, 'a> {
     ghost use Rattle.std.specs.Prelude.{◌≡◌, ◌≤◌, List, drop, length, map};
-    ghost use Rattle.breaks.specs.Bases.{Base};
+    ghost use Rattle.breaks.specs.Bases.{BaseCharacter};
     ghost use Rattle.breaks.specs.Reasons.{start_of};
     ghost use Rattle.breaks.specs.Rules as rules;
     ghost use Rattle.breaks.specs.Seen.{base_in, rest};
     ghost use Rattle.breaks.specs.Walk as walk;
 
-    ghost Value = { List Base };
+    ghost Value = { List BaseCharacter };
 
     ghost view = { λ b. map base_in b.bases.now };
 
@@ -53,7 +53,7 @@ impl<'b, 'a> Model for Before<'b, 'a> {
 
 impl<'b, 'a> Before<'b, 'a> {
     /// Returns the value for the start of a text. `bases` must be empty.
-    pub fn none(bases: &'b [Base<'a>]) -> Before<'b, 'a>
+    pub fn none(bases: &'b [BaseCharacter<'a>]) -> Before<'b, 'a>
         requires { length bases.now ≡ 0 }
         ensures { result ≡ [] }
     {
@@ -71,7 +71,12 @@ impl<'b, 'a> Before<'b, 'a> {
 
     /// Returns the value for the position after `base`, which starts at `start`. `bases` must hold `base` and
     /// then the bases of `self`.
-    pub fn next(&self, base: &Base<'a>, bases: &'b [Base<'a>], start: usize) -> Before<'b, 'a>
+    pub fn next(
+        &self,
+        base: &BaseCharacter<'a>,
+        bases: &'b [BaseCharacter<'a>],
+        start: usize,
+    ) -> Before<'b, 'a>
         requires bases { map base_in bases.now ≡ base_in base.now ∷ self.now }
         requires start { start ≡ chars_in self.now }
         ensures { result ≡ map base_in bases.now }
@@ -105,7 +110,7 @@ impl<'b, 'a> Before<'b, 'a> {
     }
 
     /// Returns the bases before the spaces that directly precede the position, or all bases if none do.
-    pub fn without_spaces(&self) -> &'b [Base<'a>]
+    pub fn without_spaces(&self) -> &'b [BaseCharacter<'a>]
         ensures { map base_in result.now ≡ rules.without_spaces self.now }
     {
         &self.bases[self.spaces..]
@@ -149,7 +154,7 @@ impl<'b, 'a> Before<'b, 'a> {
     /// LB25 of 15.0 for whole numbers: returns whether the position is inside a number, given the bases after
     /// the position.
     #[tactic(auto, using(crate::proofs::NumberLemmas::in_number_is))]
-    pub fn is_in_number(&self, after: &[Base<'_>]) -> bool
+    pub fn is_in_number(&self, after: &[BaseCharacter<'_>]) -> bool
         ensures { result ≡ is_in_number self.now (map base_in after.now) }
     {
         let affix = [LineClass::PR, LineClass::PO];

@@ -7,10 +7,10 @@ ghost use Rattle.ucd.specs.declared.line_class.LineClass.TheVariants.{AK, AS, HH
 ghost use Rattle.breaks.specs.Seen.{base_in, rest};
 ghost use Rattle.breaks.specs.Walk.{begins_unaffixed};
 
-use crate::bases::{Base, is_one_of};
+use crate::bases::{BaseCharacter, is_one_of};
 use ucd::{LineClass, LineDetail};
 
-pub fn is(classes: &[LineClass], bases: &[Base<'_>]) -> bool
+pub fn is(classes: &[LineClass], bases: &[BaseCharacter<'_>]) -> bool
     ensures { result ≡ rules.is classes.now (map base_in bases.now) }
 {
     match bases.first() {
@@ -19,7 +19,7 @@ pub fn is(classes: &[LineClass], bases: &[Base<'_>]) -> bool
     }
 }
 
-pub fn is_narrow(classes: &[LineClass], bases: &[Base<'_>]) -> bool
+pub fn is_narrow(classes: &[LineClass], bases: &[BaseCharacter<'_>]) -> bool
     ensures { result ≡ rules.is_narrow classes.now (map base_in bases.now) }
 {
     match bases.first() {
@@ -28,7 +28,7 @@ pub fn is_narrow(classes: &[LineClass], bases: &[Base<'_>]) -> bool
     }
 }
 
-pub fn is_not(classes: &[LineClass], bases: &[Base<'_>]) -> bool
+pub fn is_not(classes: &[LineClass], bases: &[BaseCharacter<'_>]) -> bool
     ensures { result ≡ rules.is_not classes.now (map base_in bases.now) }
 {
     match bases.first() {
@@ -38,19 +38,19 @@ pub fn is_not(classes: &[LineClass], bases: &[Base<'_>]) -> bool
 }
 
 /// Returns all bases except the nearest one.
-pub fn rest<'b, 'a>(bases: &'b [Base<'a>]) -> &'b [Base<'a>]
+pub fn rest<'b, 'a>(bases: &'b [BaseCharacter<'a>]) -> &'b [BaseCharacter<'a>]
     ensures { map base_in result.now ≡ rest (map base_in bases.now) }
 {
     &bases[bases.len().min(1)..]
 }
 
-pub fn is_pair(firsts: &[LineClass], classes: &[LineClass], bases: &[Base<'_>]) -> bool
+pub fn is_pair(firsts: &[LineClass], classes: &[LineClass], bases: &[BaseCharacter<'_>]) -> bool
     ensures { result ≡ rules.is_pair firsts.now classes.now (map base_in bases.now) }
 {
     is(firsts, rest(bases)) && is(classes, bases)
 }
 
-pub fn is_not_east_asian(bases: &[Base<'_>]) -> bool
+pub fn is_not_east_asian(bases: &[BaseCharacter<'_>]) -> bool
     ensures { result ≡ rules.is_not_east_asian (map base_in bases.now) }
 {
     match bases.first() {
@@ -59,7 +59,7 @@ pub fn is_not_east_asian(bases: &[Base<'_>]) -> bool
     }
 }
 
-pub fn is_quote(detail: LineDetail, bases: &[Base<'_>]) -> bool
+pub fn is_quote(detail: LineDetail, bases: &[BaseCharacter<'_>]) -> bool
     ensures { result ≡ rules.is_quote detail (map base_in bases.now) }
 {
     match bases.first() {
@@ -68,7 +68,7 @@ pub fn is_quote(detail: LineDetail, bases: &[Base<'_>]) -> bool
     }
 }
 
-pub fn is_quote_but(detail: LineDetail, bases: &[Base<'_>]) -> bool
+pub fn is_quote_but(detail: LineDetail, bases: &[BaseCharacter<'_>]) -> bool
     ensures { result ≡ rules.is_quote_but detail (map base_in bases.now) }
 {
     match bases.first() {
@@ -77,7 +77,7 @@ pub fn is_quote_but(detail: LineDetail, bases: &[Base<'_>]) -> bool
     }
 }
 
-pub fn is_aksara(classes: &[LineClass], bases: &[Base<'_>]) -> bool
+pub fn is_aksara(classes: &[LineClass], bases: &[BaseCharacter<'_>]) -> bool
     ensures { result ≡ rules.is_aksara classes.now (map base_in bases.now) }
 {
     match bases.first() {
@@ -86,7 +86,7 @@ pub fn is_aksara(classes: &[LineClass], bases: &[Base<'_>]) -> bool
     }
 }
 
-pub fn ends_in_zwj(bases: &[Base<'_>]) -> bool
+pub fn ends_in_zwj(bases: &[BaseCharacter<'_>]) -> bool
     ensures { result ≡ rules.ends_in_zwj (map base_in bases.now) }
 {
     match bases.first() {
@@ -95,7 +95,7 @@ pub fn ends_in_zwj(bases: &[Base<'_>]) -> bool
     }
 }
 
-pub fn is_future_pictograph(bases: &[Base<'_>]) -> bool
+pub fn is_future_pictograph(bases: &[BaseCharacter<'_>]) -> bool
     ensures { result ≡ rules.is_future_pictograph (map base_in bases.now) }
 {
     match bases.first() {
@@ -106,7 +106,7 @@ pub fn is_future_pictograph(bases: &[Base<'_>]) -> bool
 
 /// LB15a: returns whether the nearest base is a QU of category Pi, at the start of the text or after a base
 /// of a class that the rule lists.
-pub fn begins_quotation(bases: &[Base<'_>]) -> bool
+pub fn begins_quotation(bases: &[BaseCharacter<'_>]) -> bool
     ensures { result ≡ rules.begins_quotation (map base_in bases.now) }
 {
     is_quote(LineDetail::Initial, bases)
@@ -129,7 +129,7 @@ pub fn begins_quotation(bases: &[Base<'_>]) -> bool
 
 /// LB15b: returns whether the nearest base is a QU of category Pf, at the end of the text or before a base of
 /// a class that the rule lists.
-pub fn ends_quotation(bases: &[Base<'_>]) -> bool
+pub fn ends_quotation(bases: &[BaseCharacter<'_>]) -> bool
     ensures { result ≡ rules.followed (rules.is_quote Final) (rules.or_edge (rules.is rules.after_final))
         (map base_in bases.now) }
 {
@@ -157,14 +157,14 @@ pub fn ends_quotation(bases: &[Base<'_>]) -> bool
 }
 
 /// LB19a: returns whether there are no bases, or the nearest one is not wide (East Asian width F, W or H).
-pub fn is_edge_or_not_east_asian(bases: &[Base<'_>]) -> bool
+pub fn is_edge_or_not_east_asian(bases: &[BaseCharacter<'_>]) -> bool
     ensures { result ≡ rules.or_edge rules.is_not_east_asian (map base_in bases.now) }
 {
     bases.is_empty() || is_not_east_asian(bases)
 }
 
 /// LB20a: returns whether the nearest base is a hyphen at the start of a word.
-pub fn is_first_hyphen(bases: &[Base<'_>]) -> bool
+pub fn is_first_hyphen(bases: &[BaseCharacter<'_>]) -> bool
     ensures { result ≡ rules.followed (rules.is (HY ∷ HH ∷ [])) (rules.or_edge (rules.is rules.before_word))
         (map base_in bases.now) }
 {
@@ -172,14 +172,14 @@ pub fn is_first_hyphen(bases: &[Base<'_>]) -> bool
 }
 
 /// LB25 of 17.0: returns whether the bases begin with OP and then NU.
-pub fn is_opened_number(bases: &[Base<'_>]) -> bool
+pub fn is_opened_number(bases: &[BaseCharacter<'_>]) -> bool
     ensures { result ≡ rules.followed (rules.is (OP ∷ [])) (rules.is (NU ∷ [])) (map base_in bases.now) }
 {
     is(&[LineClass::OP], bases) && is(&[LineClass::NU], rest(bases))
 }
 
 /// LB25 of 17.0: returns whether the bases begin with OP, IS and then NU.
-pub fn is_opened_fraction(bases: &[Base<'_>]) -> bool
+pub fn is_opened_fraction(bases: &[BaseCharacter<'_>]) -> bool
     ensures { result ≡ rules.followed (rules.is (OP ∷ []))
         (rules.followed (rules.is (IS ∷ [])) (rules.is (NU ∷ []))) (map base_in bases.now) }
 {
@@ -187,14 +187,14 @@ pub fn is_opened_fraction(bases: &[Base<'_>]) -> bool
 }
 
 // Returns whether the bases begin with IS and then NU.
-fn is_fraction(bases: &[Base<'_>]) -> bool
+fn is_fraction(bases: &[BaseCharacter<'_>]) -> bool
     ensures { result ≡ rules.followed (rules.is (IS ∷ [])) (rules.is (NU ∷ [])) (map base_in bases.now) }
 {
     is(&[LineClass::IS], bases) && is(&[LineClass::NU], rest(bases))
 }
 
 /// LB28a: returns whether the nearest base is VI after a letter of a Brahmic script.
-pub fn is_virama_after_aksara(bases: &[Base<'_>]) -> bool
+pub fn is_virama_after_aksara(bases: &[BaseCharacter<'_>]) -> bool
     ensures { result ≡ rules.followed (rules.is (VI ∷ [])) (rules.is_aksara (AK ∷ AS ∷ []))
         (map base_in bases.now) }
 {
@@ -202,7 +202,7 @@ pub fn is_virama_after_aksara(bases: &[Base<'_>]) -> bool
 }
 
 /// LB28a: returns whether the nearest base is a letter of a Brahmic script before VF.
-pub fn is_aksara_before_vf(bases: &[Base<'_>]) -> bool
+pub fn is_aksara_before_vf(bases: &[BaseCharacter<'_>]) -> bool
     ensures { result ≡ rules.followed (rules.is_aksara (AK ∷ AS ∷ [])) (rules.is (VF ∷ []))
         (map base_in bases.now) }
 {
@@ -210,7 +210,7 @@ pub fn is_aksara_before_vf(bases: &[Base<'_>]) -> bool
 }
 
 // Returns whether there are no bases, or the nearest one has one of the classes that LB20a lists.
-fn begins_word(bases: &[Base<'_>]) -> bool
+fn begins_word(bases: &[BaseCharacter<'_>]) -> bool
     ensures { result ≡ rules.or_edge (rules.is rules.before_word) (map base_in bases.now) }
 {
     bases.is_empty()
@@ -230,7 +230,7 @@ fn begins_word(bases: &[Base<'_>]) -> bool
 }
 
 /// LB25 of 15.0 for whole numbers: returns whether the bases begin with NU, or with OP or HY and then NU.
-pub fn begins_unaffixed(bases: &[Base<'_>]) -> bool
+pub fn begins_unaffixed(bases: &[BaseCharacter<'_>]) -> bool
     ensures { result ≡ begins_unaffixed (map base_in bases.now) }
 {
     is(&[LineClass::NU], bases)

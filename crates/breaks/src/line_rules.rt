@@ -13,7 +13,7 @@ ghost use Rattle.breaks.specs.Rules as rows;
 ghost use Rattle.breaks.specs.Seen.{base_in};
 ghost use Rattle.breaks.specs.declared.line_rule.LineRule.TheVariants.{LB31};
 
-use crate::bases::Base;
+use crate::bases::BaseCharacter;
 use crate::before::Before;
 use crate::conditions::{
     begins_quotation, ends_in_zwj, ends_quotation, is, is_aksara, is_aksara_before_vf,
@@ -25,7 +25,7 @@ use crate::line_rule::LineRule;
 use ucd::{LineClass, LineDetail, Version};
 
 // Tries LB3 to LB12.
-fn lb3_to_lb12(before: &Before<'_, '_>, after: &[Base<'_>]) -> Option<LineRule>
+fn lb3_to_lb12(before: &Before<'_, '_>, after: &[BaseCharacter<'_>]) -> Option<LineRule>
     ensures { result ≡ first_row names_LB3_to_LB12 rows.LB3_to_LB12 before.now (map base_in after.now) }
 {
     if after.is_empty() {
@@ -68,7 +68,7 @@ fn lb3_to_lb12(before: &Before<'_, '_>, after: &[Base<'_>]) -> Option<LineRule>
 }
 
 // Tries LB12a to LB14 of 15.0.
-fn lb12a_to_lb14(before: &Before<'_, '_>, after: &[Base<'_>]) -> Option<LineRule>
+fn lb12a_to_lb14(before: &Before<'_, '_>, after: &[BaseCharacter<'_>]) -> Option<LineRule>
     ensures { result ≡ first_row names_LB12a_to_LB14 (rows.LB12a V15_0 ++ (rows.LB13 V15_0 ++ rows.LB14))
         before.now (map base_in after.now) }
 {
@@ -96,7 +96,7 @@ fn lb12a_to_lb14(before: &Before<'_, '_>, after: &[Base<'_>]) -> Option<LineRule
 }
 
 // Tries LB12a to LB14 of 17.0.
-fn lb12a_to_lb14_17(before: &Before<'_, '_>, after: &[Base<'_>]) -> Option<LineRule>
+fn lb12a_to_lb14_17(before: &Before<'_, '_>, after: &[BaseCharacter<'_>]) -> Option<LineRule>
     ensures { result ≡ first_row names_LB12a_to_LB14 (rows.LB12a V17_0 ++ (rows.LB13 V17_0 ++ rows.LB14))
         before.now (map base_in after.now) }
 {
@@ -120,7 +120,7 @@ fn lb12a_to_lb14_17(before: &Before<'_, '_>, after: &[Base<'_>]) -> Option<LineR
 }
 
 // Tries LB15 of 15.0.
-fn lb15(before: &Before<'_, '_>, after: &[Base<'_>]) -> Option<LineRule>
+fn lb15(before: &Before<'_, '_>, after: &[BaseCharacter<'_>]) -> Option<LineRule>
     ensures { result ≡ first_row (names_LB15 V15_0) (rows.LB15 V15_0) before.now (map base_in after.now) }
 {
     if before.is_spaced(&[LineClass::QU]) && is(&[LineClass::OP], after) {
@@ -130,7 +130,7 @@ fn lb15(before: &Before<'_, '_>, after: &[Base<'_>]) -> Option<LineRule>
 }
 
 // Tries LB15a to LB15d of 17.0.
-fn lb15_17(before: &Before<'_, '_>, after: &[Base<'_>]) -> Option<LineRule>
+fn lb15_17(before: &Before<'_, '_>, after: &[BaseCharacter<'_>]) -> Option<LineRule>
     ensures { result ≡ first_row (names_LB15 V17_0) (rows.LB15 V17_0) before.now (map base_in after.now) }
 {
     if begins_quotation(before.without_spaces()) {
@@ -152,7 +152,7 @@ fn lb15_17(before: &Before<'_, '_>, after: &[Base<'_>]) -> Option<LineRule>
 }
 
 // Tries LB16 to LB18.
-fn lb16_to_lb18(before: &Before<'_, '_>, after: &[Base<'_>]) -> Option<LineRule>
+fn lb16_to_lb18(before: &Before<'_, '_>, after: &[BaseCharacter<'_>]) -> Option<LineRule>
     ensures { result ≡ first_row names_LB16_to_LB18 rows.LB16_to_LB18 before.now (map base_in after.now) }
 {
     if before.is_spaced(&[LineClass::CL, LineClass::CP]) && is(&[LineClass::NS], after) {
@@ -168,7 +168,7 @@ fn lb16_to_lb18(before: &Before<'_, '_>, after: &[Base<'_>]) -> Option<LineRule>
 }
 
 // Tries LB19 of 15.0.
-fn lb19(before: &Before<'_, '_>, after: &[Base<'_>]) -> Option<LineRule>
+fn lb19(before: &Before<'_, '_>, after: &[BaseCharacter<'_>]) -> Option<LineRule>
     ensures { result ≡ first_row (names_LB19 V15_0) (rows.LB19 V15_0) before.now (map base_in after.now) }
 {
     if is(&[LineClass::QU], after) || is(&[LineClass::QU], before.bases) {
@@ -178,7 +178,7 @@ fn lb19(before: &Before<'_, '_>, after: &[Base<'_>]) -> Option<LineRule>
 }
 
 // Tries LB19 and LB19a of 17.0.
-fn lb19_17(before: &Before<'_, '_>, after: &[Base<'_>]) -> Option<LineRule>
+fn lb19_17(before: &Before<'_, '_>, after: &[BaseCharacter<'_>]) -> Option<LineRule>
     ensures { result ≡ first_row (names_LB19 V17_0) (rows.LB19 V17_0) before.now (map base_in after.now) }
 {
     if is_quote_but(LineDetail::Initial, after) || is_quote_but(LineDetail::Final, before.bases) {
@@ -200,7 +200,7 @@ fn lb19_17(before: &Before<'_, '_>, after: &[Base<'_>]) -> Option<LineRule>
 }
 
 // Tries LB20.
-fn lb20(before: &Before<'_, '_>, after: &[Base<'_>]) -> Option<LineRule>
+fn lb20(before: &Before<'_, '_>, after: &[BaseCharacter<'_>]) -> Option<LineRule>
     ensures { result ≡ first_row names_LB20 rows.LB20 before.now (map base_in after.now) }
 {
     if is(&[LineClass::CB], after) || is(&[LineClass::CB], before.bases) {
@@ -210,7 +210,7 @@ fn lb20(before: &Before<'_, '_>, after: &[Base<'_>]) -> Option<LineRule>
 }
 
 // Tries LB21 and LB21a of 15.0, which has no LB20a.
-fn lb21_and_lb21a(before: &Before<'_, '_>, after: &[Base<'_>]) -> Option<LineRule>
+fn lb21_and_lb21a(before: &Before<'_, '_>, after: &[BaseCharacter<'_>]) -> Option<LineRule>
     ensures { result ≡ first_row (names_LB20a V15_0 ++ names_LB21_and_LB21a)
         (rows.LB20a V15_0 ++ (rows.LB21 V15_0 ++ rows.LB21a V15_0))
         before.now (map base_in after.now) }
@@ -232,7 +232,7 @@ fn lb21_and_lb21a(before: &Before<'_, '_>, after: &[Base<'_>]) -> Option<LineRul
 }
 
 // Tries LB20a to LB21a of 17.0.
-fn lb20a_to_lb21a_17(before: &Before<'_, '_>, after: &[Base<'_>]) -> Option<LineRule>
+fn lb20a_to_lb21a_17(before: &Before<'_, '_>, after: &[BaseCharacter<'_>]) -> Option<LineRule>
     ensures { result ≡ first_row (names_LB20a V17_0 ++ names_LB21_and_LB21a)
         (rows.LB20a V17_0 ++ (rows.LB21 V17_0 ++ rows.LB21a V17_0))
         before.now (map base_in after.now) }
@@ -261,7 +261,7 @@ fn lb20a_to_lb21a_17(before: &Before<'_, '_>, after: &[Base<'_>]) -> Option<Line
 }
 
 // Tries LB21b to LB24.
-fn lb21b_to_lb24(before: &Before<'_, '_>, after: &[Base<'_>]) -> Option<LineRule>
+fn lb21b_to_lb24(before: &Before<'_, '_>, after: &[BaseCharacter<'_>]) -> Option<LineRule>
     ensures { result ≡ first_row names_LB21b_to_LB24 rows.LB21b_to_LB24 before.now (map base_in after.now) }
 {
     if is(&[LineClass::SY], before.bases) && is(&[LineClass::HL], after) {
@@ -301,7 +301,7 @@ fn lb21b_to_lb24(before: &Before<'_, '_>, after: &[Base<'_>]) -> Option<LineRule
 
 // Tries LB25 of 15.0, on pairs of bases.
 #[tactic(auto, unfolding(crate::specs::Rules::rows_of_numbers))]
-fn lb25(before: &Before<'_, '_>, after: &[Base<'_>]) -> Option<LineRule>
+fn lb25(before: &Before<'_, '_>, after: &[BaseCharacter<'_>]) -> Option<LineRule>
     ensures { result ≡ first_row (names_of_numbers V15_0 false) (rows.rows_of_numbers V15_0)
         before.now (map base_in after.now) }
 {
@@ -327,7 +327,7 @@ fn lb25(before: &Before<'_, '_>, after: &[Base<'_>]) -> Option<LineRule>
 
 // Tries LB25 of 17.0.
 #[tactic(auto, unfolding(crate::specs::Rules::rows_of_numbers))]
-fn lb25_17(before: &Before<'_, '_>, after: &[Base<'_>]) -> Option<LineRule>
+fn lb25_17(before: &Before<'_, '_>, after: &[BaseCharacter<'_>]) -> Option<LineRule>
     ensures { result ≡ first_row (names_of_numbers V17_0 false) (rows.rows_of_numbers V17_0)
         before.now (map base_in after.now) }
 {
@@ -355,7 +355,7 @@ fn lb25_17(before: &Before<'_, '_>, after: &[Base<'_>]) -> Option<LineRule>
 }
 
 // Tries LB26 to LB28.
-fn lb26_to_lb28(before: &Before<'_, '_>, after: &[Base<'_>]) -> Option<LineRule>
+fn lb26_to_lb28(before: &Before<'_, '_>, after: &[BaseCharacter<'_>]) -> Option<LineRule>
     ensures { result ≡ first_row names_LB26_to_LB28 rows.LB26_to_LB28 before.now (map base_in after.now) }
 {
     if is(&[LineClass::JL], before.bases)
@@ -410,7 +410,7 @@ fn lb26_to_lb28(before: &Before<'_, '_>, after: &[Base<'_>]) -> Option<LineRule>
 }
 
 // Tries LB28a of 17.0.
-fn lb28a(before: &Before<'_, '_>, after: &[Base<'_>]) -> Option<LineRule>
+fn lb28a(before: &Before<'_, '_>, after: &[BaseCharacter<'_>]) -> Option<LineRule>
     ensures { result ≡ first_row (names_LB28a V17_0) (rows.LB28a V17_0) before.now (map base_in after.now) }
 {
     if is(&[LineClass::AP], before.bases) && is_aksara(&[LineClass::AK, LineClass::AS], after) {
@@ -431,7 +431,7 @@ fn lb28a(before: &Before<'_, '_>, after: &[Base<'_>]) -> Option<LineRule>
 }
 
 // Tries LB29 to LB30b.
-fn lb29_to_lb30b(before: &Before<'_, '_>, after: &[Base<'_>]) -> Option<LineRule>
+fn lb29_to_lb30b(before: &Before<'_, '_>, after: &[BaseCharacter<'_>]) -> Option<LineRule>
     ensures { result ≡ first_row names_LB29_to_LB30b rows.LB29_to_LB30b before.now (map base_in after.now) }
 {
     if is(&[LineClass::IS], before.bases) && is(&[LineClass::AL, LineClass::HL], after) {
@@ -460,7 +460,7 @@ fn lb29_to_lb30b(before: &Before<'_, '_>, after: &[Base<'_>]) -> Option<LineRule
 }
 
 // Tries the rules of 15.0 before LB25.
-fn before_numbers(before: &Before<'_, '_>, after: &[Base<'_>]) -> Option<LineRule>
+fn before_numbers(before: &Before<'_, '_>, after: &[BaseCharacter<'_>]) -> Option<LineRule>
     ensures { result ≡ first_row (names_before_numbers V15_0) (rows.rows_before_numbers V15_0)
         before.now (map base_in after.now) }
 {
@@ -475,7 +475,7 @@ fn before_numbers(before: &Before<'_, '_>, after: &[Base<'_>]) -> Option<LineRul
 }
 
 // Tries the rules of 17.0 before LB25.
-fn before_numbers_17(before: &Before<'_, '_>, after: &[Base<'_>]) -> Option<LineRule>
+fn before_numbers_17(before: &Before<'_, '_>, after: &[BaseCharacter<'_>]) -> Option<LineRule>
     ensures { result ≡ first_row (names_before_numbers V17_0) (rows.rows_before_numbers V17_0)
         before.now (map base_in after.now) }
 {
@@ -490,7 +490,11 @@ fn before_numbers_17(before: &Before<'_, '_>, after: &[Base<'_>]) -> Option<Line
 }
 
 // Tries LB25 of 15.0, for whole numbers or for pairs of bases.
-fn numbers(whole_numbers: bool, before: &Before<'_, '_>, after: &[Base<'_>]) -> Option<LineRule>
+fn numbers(
+    whole_numbers: bool,
+    before: &Before<'_, '_>,
+    after: &[BaseCharacter<'_>],
+) -> Option<LineRule>
     ensures { result ≡ first_by (names_of_numbers V15_0 whole_numbers) (rows.numbers V15_0 whole_numbers)
         before.now (map base_in after.now) }
 {
@@ -504,7 +508,11 @@ fn numbers(whole_numbers: bool, before: &Before<'_, '_>, after: &[Base<'_>]) -> 
 }
 
 // Tries the rules of 15.0.
-fn rule_15(whole_numbers: bool, before: &Before<'_, '_>, after: &[Base<'_>]) -> Option<LineRule>
+fn rule_15(
+    whole_numbers: bool,
+    before: &Before<'_, '_>,
+    after: &[BaseCharacter<'_>],
+) -> Option<LineRule>
     ensures { result ≡ first_by (names V15_0 whole_numbers) (rows.rules V15_0 whole_numbers)
         before.now (map base_in after.now) }
 {
@@ -515,7 +523,7 @@ fn rule_15(whole_numbers: bool, before: &Before<'_, '_>, after: &[Base<'_>]) -> 
 }
 
 // Tries the rules of 17.0.
-fn rule_17(before: &Before<'_, '_>, after: &[Base<'_>]) -> Option<LineRule>
+fn rule_17(before: &Before<'_, '_>, after: &[BaseCharacter<'_>]) -> Option<LineRule>
     ensures { (whole_numbers : Bool) → result ≡ first_by (names V17_0 whole_numbers)
         (rows.rules V17_0 whole_numbers) before.now (map base_in after.now) }
 {
@@ -531,7 +539,7 @@ pub fn rule_between(
     version: Version,
     whole_numbers: bool,
     before: &Before<'_, '_>,
-    after: &[Base<'_>],
+    after: &[BaseCharacter<'_>],
 ) -> LineRule
     ensures { result ≡ unwrap_or (first_by (names version whole_numbers) (rows.rules version whole_numbers)
         before.now (map base_in after.now)) LB31 }

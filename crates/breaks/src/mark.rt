@@ -50,7 +50,7 @@ pub fn marks(
     let mut marks = Vec::new(alloc);
     marks.resize(text.len(), Mark::Must)?;
     let characters = LookedUp { tables, text };
-    mark_all(tables, text, characters, whole_numbers, &mut marks);
+    fill_all(tables, text, characters, whole_numbers, &mut marks);
     Ok(marks)
 }
 
@@ -71,12 +71,12 @@ pub fn marks_into(
 {
     marks.resize(properties.len(), Mark::Must)?;
     let characters = Known { properties };
-    mark_all(tables, text, characters, whole_numbers, marks);
+    fill_all(tables, text, characters, whole_numbers, marks);
     Ok(())
 }
 
 // Overwrites `marks` with the break mark after each character.
-fn mark_all<C: Characters>(
+fn fill_all<C: Characters>(
     tables: &Tables,
     text: &[char],
     characters: C,
@@ -90,15 +90,15 @@ fn mark_all<C: Characters>(
     match tables.version() {
         Version::V15_0 => {
             let rules = Rules15 { whole_numbers };
-            mark_by::<Rules15, OrdinaryWalk15, Walk15, C>(characters, rules, marks);
+            fill_by::<Rules15, OrdinaryWalk15, Walk15, C>(characters, rules, marks);
         }
-        Version::V17_0 => mark_all_17(characters, marks),
+        Version::V17_0 => fill_all_17(characters, marks),
     }
 }
 
-// Does the same as `mark_all`, with the given rules. Uses the walk `O`, which is faster than `W`, if all
+// Does the same as `fill_all`, with the given rules. Uses the walk `O`, which is faster than `W`, if all
 // properties are known and `O` can pass all characters. Otherwise, uses `W`.
-fn mark_by<R: Rules, O: Walk<R>, W: Walk<R>, C: Characters>(
+fn fill_by<R: Rules, O: Walk<R>, W: Walk<R>, C: Characters>(
     characters: C,
     rules: R,
     marks: &mut [Mark],
@@ -108,22 +108,22 @@ fn mark_by<R: Rules, O: Walk<R>, W: Walk<R>, C: Characters>(
     ensures { marks.new ≡ marks_by R.version (R.whole_numbers rules) (C.all characters) }
 {
     if C::ARE_KNOWN && are_accepted::<R, O, C>(characters) {
-        mark_each::<R, O, C>(characters, rules, marks);
+        fill_each::<R, O, C>(characters, rules, marks);
     } else {
-        mark_each::<R, W, C>(characters, rules, marks);
+        fill_each::<R, W, C>(characters, rules, marks);
     }
 }
 
-// Does the same as `mark_all`, with the rules of 17.0. Prefers `NarrowWalk17`, which is even faster than
+// Does the same as `fill_all`, with the rules of 17.0. Prefers `NarrowWalk17`, which is even faster than
 // `OrdinaryWalk17`.
-fn mark_all_17<C: Characters>(characters: C, marks: &mut [Mark])
+fn fill_all_17<C: Characters>(characters: C, marks: &mut [Mark])
     requires { length marks.old ≡ length (C.all characters) }
     ensures { marks.new ≡ marks_by V17_0 false (C.all characters) }
 {
     if C::ARE_KNOWN && are_accepted::<Rules17, NarrowWalk17, C>(characters) {
-        mark_each::<Rules17, NarrowWalk17, C>(characters, Rules17, marks);
+        fill_each::<Rules17, NarrowWalk17, C>(characters, Rules17, marks);
     } else {
-        mark_by::<Rules17, OrdinaryWalk17, Walk17, C>(characters, Rules17, marks);
+        fill_by::<Rules17, OrdinaryWalk17, Walk17, C>(characters, Rules17, marks);
     }
 }
 
@@ -138,9 +138,9 @@ fn are_accepted<R: Rules, W: Walk<R>, C: Characters>(characters: C) -> bool
     accepted
 }
 
-// Does the same as `mark_by`, but always with the walk `W`, which must be able to pass all characters.
+// Does the same as `fill_by`, but always with the walk `W`, which must be able to pass all characters.
 #[inline(never)] // so that the loop has all registers
-fn mark_each<R: Rules, W: Walk<R>, C: Characters>(characters: C, rules: R, marks: &mut [Mark])
+fn fill_each<R: Rules, W: Walk<R>, C: Characters>(characters: C, rules: R, marks: &mut [Mark])
     requires len { length marks.old ≡ length (C.all characters) }
     requires accepted { list_all W.accepts (C.all characters) ≡ true }
     ensures { marks.new ≡ marks_by R.version (R.whole_numbers rules) (C.all characters) }
@@ -152,14 +152,19 @@ fn mark_each<R: Rules, W: Walk<R>, C: Characters>(characters: C, rules: R, marks
     let last = rest.len();
     for i in 0..last {
         let outcome = walk.pass(rest.get(i));
-        marks[i] = mark_before(rest, i + 1, outcome, rules);
+        marks[i] = decide_before(rest, i + 1, outcome, rules);
     }
     marks[last] = Mark::Must;
 }
 
 // Returns the mark before the character at `after - 1`, given the outcome there.
 #[inline(always)] // so that most characters need no call
-fn mark_before<R: Rules, C: Characters>(characters: C, after: usize, outcome: u8, rules: R) -> Mark
+fn decide_before<R: Rules, C: Characters>(
+    characters: C,
+    after: usize,
+    outcome: u8,
+    rules: R,
+) -> Mark
     requires place { after ≤ length (C.all characters) }
     requires below { outcome < R.outcome_count }
     ensures { result ≡ R.mark_of rules outcome
@@ -167,7 +172,7 @@ fn mark_before<R: Rules, C: Characters>(characters: C, after: usize, outcome: u8
 {
     match rules.mark(outcome) {
         Some(mark) => mark,
-        None => mark_asked(characters, after, outcome, rules),
+        None => decide_question(characters, after, outcome, rules),
     }
 }
 
@@ -175,7 +180,12 @@ fn mark_before<R: Rules, C: Characters>(characters: C, after: usize, outcome: u8
 // is known, past the combining marks of at most two bases.
 #[cold]
 #[inline(never)] // so that the loop over the characters has all registers
-fn mark_asked<R: Rules, C: Characters>(characters: C, after: usize, question: u8, rules: R) -> Mark
+fn decide_question<R: Rules, C: Characters>(
+    characters: C,
+    after: usize,
+    question: u8,
+    rules: R,
+) -> Mark
     requires place { after ≤ length (C.all characters) }
     requires below { question < R.outcome_count }
     requires question { R.is_question rules question ≡ true }

@@ -2,7 +2,7 @@
 //! LB25 and LB28a.
 ghost use Rattle.std.specs.Prelude.{◌≡◌, ◌<◌, ◌≤◌, [], ◌∷◌, List, slice_index};
 ghost use Rattle.ucd.specs.declared.version.Version.TheVariants.{V17_0};
-ghost use Rattle.breaks.specs.Bases.{Base, Character};
+ghost use Rattle.breaks.specs.Bases.{BaseCharacter, Character};
 ghost use Rattle.breaks.specs.Symbols.{character_by};
 ghost use Rattle.breaks.specs.Passes.{bases_after};
 ghost use Rattle.breaks.specs.Walk17.{by_width, mark_of_17};
@@ -58,7 +58,7 @@ fn answer_at(place: usize) -> u8
 pub fn mark_17(decided: u8) -> Mark
     requires { decided < DECIDED_COUNT }
     ensures end { result ≡ mark_of_17 decided [] }
-    ensures anywhere { decided < LB15B → (rest : List Base) → result ≡ mark_of_17 decided rest }
+    ensures anywhere { decided < LB15B → (rest : List BaseCharacter) → result ≡ mark_of_17 decided rest }
 {
     MARKS[decided as usize]
 }

@@ -7,7 +7,7 @@ ghost use Rattle.breaks.specs.Marks.{marks_after, marks_of};
 ghost use Rattle.breaks.specs.Rules.{mark_by, rules};
 ghost use Rattle.breaks.specs.Seen.{base_in, rest};
 
-use crate::bases::{Base, bases, characters};
+use crate::bases::{BaseCharacter, bases, characters};
 use crate::before::Before;
 use crate::line_rule::LineRule;
 use crate::line_rules::rule_between;
@@ -42,7 +42,7 @@ struct Edition {
 }
 
 // Returns the class of the nearest base, or `None` if there are no bases.
-fn next_class(bases: &[Base<'_>]) -> Option<LineClass>
+fn next_class(bases: &[BaseCharacter<'_>]) -> Option<LineClass>
     ensures { result ≡ next_class (map base_in bases.now) }
 {
     match bases.first() {
@@ -55,7 +55,7 @@ fn next_class(bases: &[Base<'_>]) -> Option<LineClass>
 // where the nearest base that is not a space starts.
 fn push_inside(
     list: &mut Vec<Reason>,
-    base: &Base<'_>,
+    base: &BaseCharacter<'_>,
     start: usize,
     behind_spaces: Option<usize>,
 ) -> Result<(), AllocError>
@@ -89,9 +89,9 @@ fn push_inside(
 fn push_base(
     list: &mut Vec<Reason>,
     edition: Edition,
-    base: &Base<'_>,
+    base: &BaseCharacter<'_>,
     before: &Before<'_, '_>,
-    after: &[Base<'_>],
+    after: &[BaseCharacter<'_>],
     mark: Mark,
 ) -> Result<(), AllocError>
     requires before { before.now ≡ base_in base.now ∷ rest before.now }
@@ -120,8 +120,8 @@ fn push_base(
 fn reasons_by<'a>(
     alloc: Global,
     edition: Edition,
-    bases: &[Base<'a>],
-    reversed: &[Base<'a>],
+    bases: &[BaseCharacter<'a>],
+    reversed: &[BaseCharacter<'a>],
     marks: &[Mark],
 ) -> Result<Vec<Reason>, AllocError>
     requires reversed { reversed.now ≡ reverse bases.now }

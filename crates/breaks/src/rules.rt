@@ -3,7 +3,7 @@
 ghost use Rattle.std.specs.Prelude.{◌≡◌, ◌<◌, ℕ, Bool, true, List, [], ◌∷◌, MatchOption};
 ghost use Rattle.ucd.specs.declared.properties.Properties.{Properties};
 ghost use Rattle.ucd.specs.declared.version.Version.{Version};
-ghost use Rattle.breaks.specs.Bases.{Base, Character, alone};
+ghost use Rattle.breaks.specs.Bases.{BaseCharacter, Character, alone};
 ghost use Rattle.breaks.specs.Passes.{Passes, bases_after};
 ghost use Rattle.breaks.specs.Rules.{rules as all_rules};
 ghost use Rattle.breaks.specs.Symbols.{character_by};
@@ -26,13 +26,13 @@ pub trait Rules: Copy {
     ghost is_question: { Self → ℕ → Bool };
 
     // The mark of an outcome, given the bases after the next one.
-    ghost mark_of: { Self → ℕ → List Base → Mark };
+    ghost mark_of: { Self → ℕ → List BaseCharacter → Mark };
 
     /// Returns the mark of an outcome, or `None` for a question.
     fn mark(self, outcome: u8) -> Option<Mark>
         requires { outcome < outcome_count }
         ensures cases { MatchOption result (is_question self outcome ≡ true)
-            (λ mark. (rest : List Base) → mark ≡ mark_of self outcome rest) };
+            (λ mark. (rest : List BaseCharacter) → mark ≡ mark_of self outcome rest) };
 
     /// Returns the answer to a question, given the next unread character: a mark, or a question about the
     /// bases after that character.
@@ -55,7 +55,7 @@ pub trait Rules: Copy {
 pub trait Walk<R: Rules>: Copy {
     // Whether the state belongs to a position, given the last base before it and the other bases, the nearest
     // first.
-    ghost stands: { R → Self → Base → List Base → Type 0 };
+    ghost stands: { R → Self → BaseCharacter → List BaseCharacter → Type 0 };
 
     // Whether the state has a row in the table.
     ghost within: { Self → Type 0 };
@@ -77,7 +77,8 @@ pub trait Walk<R: Rules>: Copy {
     fn pass(&mut self, next: Properties) -> u8
         requires row { within self.old }
         requires next { accepts next ≡ true }
-        ensures passes { (rules : R) (last : Base) (others : List Base) → stands rules self.old last others
+        ensures passes { (rules : R) (last : BaseCharacter) (others : List BaseCharacter)
+            → stands rules self.old last others
             → Passes (all_rules R.version (R.whole_numbers rules)) (R.mark_of rules result)
             (stands rules self.new) last others (character_by R.version next) }
         ensures within { within self.new }

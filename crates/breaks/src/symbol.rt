@@ -3,7 +3,7 @@
 ghost use Rattle.std.specs.Prelude.{◌≡◌, ◌<◌, slice_index};
 ghost use Rattle.ucd.specs.declared.properties.TheConstants.{LINE_INDEX_COUNT};
 ghost use Rattle.ucd.specs.declared.version.Version.TheVariants.{V15_0};
-ghost use Rattle.breaks.specs.Symbols.{character_by, shown, told};
+ghost use Rattle.breaks.specs.Symbols.{character_by, shown, as_read};
 ghost use Rattle.breaks.specs.declared.symbol.TheConstants.{SYMBOL_COUNT};
 
 use ucd::{LINE_INDEX_COUNT, Properties};
@@ -70,7 +70,7 @@ pub const ATTACHED: u8 = Symbol::CM as u8;
 
 /// Returns the symbol number of a character with these properties.
 pub fn symbol_of(properties: Properties) -> u8
-    ensures shown { shown result ≡ told (character_by V15_0 properties) }
+    ensures shown { shown result ≡ as_read (character_by V15_0 properties) }
     ensures below { result < SYMBOL_COUNT }
 {
     symbol_at(properties.line_index())

@@ -4,7 +4,7 @@
 ghost use Rattle.std.specs.Prelude.{◌≡◌, ◌<◌, slice_index};
 ghost use Rattle.ucd.specs.declared.properties.TheConstants.{LINE_INDEX_COUNT};
 ghost use Rattle.ucd.specs.declared.version.Version.TheVariants.{V17_0};
-ghost use Rattle.breaks.specs.Symbols.{character_by, shown_17, told_17};
+ghost use Rattle.breaks.specs.Symbols.{character_by, shown_17, as_read_17};
 ghost use Rattle.breaks.specs.declared.symbol_17.TheConstants.{SYMBOL_COUNT};
 
 use ucd::{LINE_INDEX_COUNT, Properties};
@@ -81,7 +81,7 @@ pub const ATTACHED: u8 = Symbol::CM as u8;
 
 /// Returns the symbol number of a character with these properties.
 pub fn symbol_17(properties: Properties) -> u8
-    ensures shown { shown_17 result ≡ told_17 (character_by V17_0 properties) }
+    ensures shown { shown_17 result ≡ as_read_17 (character_by V17_0 properties) }
     ensures below { result < SYMBOL_COUNT }
 {
     symbol_at(properties.line_index())

@@ -2,7 +2,7 @@
 ghost use Rattle.std.specs.Prelude.{◌≡◌, ◌<◌, ◌≤◌, false, nat_le, true};
 ghost use Rattle.ucd.specs.declared.version.Version.TheVariants.{V17_0};
 ghost use Rattle.breaks.specs.Bases.{alone, is_east_asian};
-ghost use Rattle.breaks.specs.Symbols.{character_by, shown_17, told_17};
+ghost use Rattle.breaks.specs.Symbols.{character_by, shown_17, as_read_17};
 ghost use Rattle.breaks.specs.declared.symbol_17.TheConstants.{SYMBOL_COUNT};
 ghost use Rattle.breaks.specs.declared.table_17.TheConstants.{DECIDED_COUNT, LAST_ROW, LB15B};
 ghost use Rattle.breaks.specs.declared.table_17.TheConstants.{OUTCOME_COUNT};
@@ -189,7 +189,7 @@ static NARROW: [u8; 15] = [
 /// that is not wide (LB10).
 pub fn is_wide(symbol: u8, first: Properties) -> bool
     requires below { symbol < SYMBOL_COUNT }
-    requires shown { shown_17 symbol ≡ told_17 (character_by V17_0 first) }
+    requires shown { shown_17 symbol ≡ as_read_17 (character_by V17_0 first) }
     ensures { result ≡ is_east_asian (alone (character_by V17_0 first)) }
 {
     first.is_wide() & (symbol < ATTACHED)

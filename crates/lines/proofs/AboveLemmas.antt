@@ -14,7 +14,7 @@ use Rattle.bidi.specs.Cuts.{paragraphs}
 use Rattle.bidi.specs.Explicit.{Inside, directed, inside, inside_at, level_above, level_at, open_chain, opens_odd, override_of, type_at}
 use Rattle.bidi.specs.Levels.{levels_in, levels_of, put, put_back, resolved}
 use Rattle.bidi.specs.Neutral.{implicit_level, rise_even, rise_odd}
-use Rattle.bidi.specs.Sequences.{changes, continues_in, first_of, joined, runs, sequences, sequences_from, stayed}
+use Rattle.bidi.specs.Sequences.{changes, continues_in, first_of, joined, runs, sequences, sequences_from, retained}
 use Rattle.bidi.specs.declared.base.Base.{Base}
 use Rattle.reorder.specs.Spaces.{ends_segment, is_blank, is_reset, line_levels}
 use Rattle.ucd.specs.declared.bidi_class.BidiClass.TheVariants.{S}
@@ -182,7 +182,7 @@ levels_above tables text base =
     let all : List BidiClass = map (class_of tables) text in
     let level : ℕ = base_level_of all base in
     let classes : List BidiClass = directed all in
-    let places : List ℕ = stayed classes in
+    let places : List ℕ = retained classes in
     back_above level level classes
     (resolved (bracket_of tables) level (map (λ k. get_or text k 0) places) (map (class_at classes) places) (map (level_at level classes) places) (map (type_at level classes) places))
     (omega arith)

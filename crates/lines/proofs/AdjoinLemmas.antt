@@ -6,10 +6,10 @@ use Rattle.std.specs.Prelude.{slice_range, sum, sum_by, All, None, Option}
 use Rattle.std.proofs.lemmas.Bool.{and_parts, both_ways, cases_Bool, cases_eq, cases_lt, cond-true, cond-false, eq-eqb, eqb-true, ne_eqb}
 use Rattle.std.proofs.lemmas.List.{get_or-drop, get_or_past, length-drop, take_more}
 use Rattle.std.proofs.lemmas.List.Sums.{sum_by-cons, sum_by_more, sum_by_push}
-use Rattle.ucd.specs.Classes.{is_mark}
+use Rattle.ucd.specs.Classes.{is_nonspacing_mark}
 use Rattle.ucd.specs.Tables.{class_of}
 use Rattle.ucd.specs.declared.bidi_class.BidiClass.{BidiClass}
-use Rattle.reorder.specs.Order.{has_base, is_mark_at, is_odd, ltov_of, order_of, precedes_mark, reverse_with_next, vtol_of, AreInverse}
+use Rattle.reorder.specs.Order.{has_base, is_nonspacing_mark_at, is_odd, ltov_of, order_of, precedes_nonspacing_mark, reverse_with_next, vtol_of, AreInverse}
 use Rattle.reorder.proofs.InverseLemmas.{inverse_maps}
 use Rattle.reorder.proofs.OrderLemmas.{length-order, length-vtol}
 use Rattle.lines.specs.CharInfos.{columns_of}
@@ -23,7 +23,7 @@ use Rattle.lines.proofs.BesideLemmas.{even_places, odd_places}
 use Rattle.lines.proofs.ColumnLemmas.{left_more}
 use Rattle.lines.proofs.OrderedLemmas.{are_parts, IsPart}
 use Rattle.lines.proofs.ReorderingLemmas.{marks_ltov, marks_vtol}
-use Rattle.lines.proofs.TabLemmas.{mark_no_tab}
+use Rattle.lines.proofs.TabLemmas.{nonspacing_mark_no_tab}
 use Rattle.lines.proofs.WidthLemmas.{length-widths, width_plain}
 
 -- ---- the sum of the items before an item
@@ -101,13 +101,13 @@ module _ (f : ℕ → ℕ) (i : ℕ) where
 -- ---- characters with a base
 
 module _ (classes : List BidiClass) (levels : List ℕ) where
-  with_base : (i : ℕ) → has_base classes levels i ≡ true → (is_mark_at classes i ≡ true) × (i < length levels)
+  with_base : (i : ℕ) → has_base classes levels i ≡ true → (is_nonspacing_mark_at classes i ≡ true) × (i < length levels)
   with_base zero has = absurd (both_ways (has_base classes levels zero) refl has)
   with_base (suc i) has =
       let odd : Bool = is_odd (get_or levels i 0) in
       let same : Bool = get_or levels (suc i) 0 == get_or levels i 0 in
-      let parts = and_parts (precedes_mark classes levels i) (not (is_mark_at classes i) || has_base classes levels i) has in
-      let mark = and_parts (is_mark_at classes (suc i)) (odd && same) parts.0 in
+      let parts = and_parts (precedes_nonspacing_mark classes levels i) (not (is_nonspacing_mark_at classes i) || has_base classes levels i) has in
+      let mark = and_parts (is_nonspacing_mark_at classes (suc i)) (odd && same) parts.0 in
       let level = and_parts odd same mark.1 in
       let e : get_or levels (suc i) 0 ≡ get_or levels i 0 = eqb-true (get_or levels (suc i) 0) (get_or levels i 0) level.1 in (
         mark.0,
@@ -218,7 +218,7 @@ module _ (ws levels : List ℕ) (size : length ws ≡ length levels) where
 
 -- ---- the order of a line
 
--- whether the marks that L3 moves occupy no columns
+-- whether the nonspacing marks that L3 moves occupy no columns
 abbrev pub Still : Bool → List BidiClass → List ℕ → List ℕ → Type 0
 Still nsm classes levels ws = (nsm ≡ false) ⊎ ((i : ℕ) → has_base classes levels i ≡ true → at ws i ≡ 0)
 
@@ -287,12 +287,12 @@ marks_still rules text line is (inr none) =
     inr (λ i has.
     let base = with_base is.classes line.levels i has in
     let char : get_or line.text i 0 ≡ get_or text (is.start + i) 0 = is.chars i base.1 in
-    let mark : is_mark (class_of rules.tables (get_or line.text i 0)) ≡ true = ap is_mark (sym (is.class i base.1)) ∙ base.0 in
+    let mark : is_nonspacing_mark (class_of rules.tables (get_or line.text i 0)) ≡ true = ap is_nonspacing_mark (sym (is.class i base.1)) ∙ base.0 in
     ap (λ (advances : Option (List ℕ)). get_or (widths_of line.tab_width advances line.text) i 0) unmeasured
     ∙ width_plain line.tab_width i line.text (omega (arith, is.size, base.1))
-    (ap (λ n. is_tab n (get_or line.text i 0)) is.tab_width ∙ mark_no_tab rules.tables rules.options (get_or line.text i 0) mark)
+    (ap (λ n. is_tab n (get_or line.text i 0)) is.tab_width ∙ nonspacing_mark_no_tab rules.tables rules.options (get_or line.text i 0) mark)
     ∙ ap columns_of char
-    ∙ none.1 (is.start + i) 0 (omega (arith, is.inside, base.1)) (ap (λ c. is_mark (class_of rules.tables c)) (sym char) ∙ mark))
+    ∙ none.1 (is.start + i) 0 (omega (arith, is.inside, base.1)) (ap (λ c. is_nonspacing_mark (class_of rules.tables c)) (sym char) ∙ mark))
 
 pub all_adjoin : (rules : Rules) (width : ℕ) (text : List ℕ) → rules.options.reorder_clusters ≡ false → MarksStay rules text → All RunsAdjoin (visuals (layout_of rules width text))
 all_adjoin rules width text whole stay = λ k d within.

@@ -12,7 +12,7 @@ use Rattle.std.proofs.lemmas.List.Sums.{sum_by-append, sum_by-cons}
 use Rattle.ucd.specs.Least.{least}
 use Rattle.bidi.proofs.LeastLemmas.{least_found, least_passes}
 use Rattle.reorder.specs.Clusters.{cluster_classes, is_joined}
-use Rattle.reorder.specs.Order.{has_base, has_odd, highest, is_at_least, is_mark_at, is_odd, lowest_odd, ltov_of, order_by, order_of, places, precedes_mark, reverse_runs, reverse_with_next, reversed_from, AreInverse}
+use Rattle.reorder.specs.Order.{has_base, has_odd, highest, is_at_least, is_nonspacing_mark_at, is_odd, lowest_odd, ltov_of, order_by, order_of, places, precedes_nonspacing_mark, reverse_runs, reverse_with_next, reversed_from, AreInverse}
 use Rattle.reorder.proofs.ClusterLemmas.{unmarked}
 use Rattle.reorder.proofs.GroupLemmas.{mark_stands}
 use Rattle.reorder.proofs.InverseLemmas.{inverse_maps}
@@ -322,17 +322,17 @@ module _ (ends : List Bool) (levels : List ℕ) (i : ℕ) (begins : is_joined en
   unmoved : (k : ℕ) → is_joined ends levels k ≡ false → is_moved k ≡ false
   unmoved zero none = refl
   unmoved (suc k) none =
-      and_left (precedes_mark classes levels k) (not (is_mark_at classes k) || is_moved k)
-      (and_left (is_mark_at classes (suc k)) (is_odd (get_or levels k 0) && (get_or levels (suc k) 0 == get_or levels k 0)) (unmarked ends levels (suc k) none))
+      and_left (precedes_nonspacing_mark classes levels k) (not (is_nonspacing_mark_at classes k) || is_moved k)
+      (and_left (is_nonspacing_mark_at classes (suc k)) (is_odd (get_or levels k 0) && (get_or levels (suc k) 0 == get_or levels k 0)) (unmarked ends levels (suc k) none))
 
   -- the character to the left of i is not moved either
   beside : (m z : ℕ) → suc m < length levels → get_or (order_of levels) (suc m) 0 ≡ i → get_or (order_of levels) m 0 ≡ z → is_moved z ≡ false
   beside m zero within here left = refl
   beside m (suc j) within here left =
-      let rest : Bool = not (is_mark_at classes j) || is_moved j in
+      let rest : Bool = not (is_nonspacing_mark_at classes j) || is_moved j in
       elim (cases_Bool (is_moved (suc j))) [
         | inl some ↦
-            let next = mark_stands classes levels m j (omega (arith, within)) left (and_parts (precedes_mark classes levels j) rest some).0 in
+            let next = mark_stands classes levels m j (omega (arith, within)) left (and_parts (precedes_nonspacing_mark classes levels j) rest some).0 in
             let e : j ≡ i = sym next.1 ∙ here in
             absurd (both_ways (is_moved (suc i)) (unmoved (suc i) closes) (ap (λ k. is_moved (suc k)) (sym e) ∙ some))
         | inr none ↦ none

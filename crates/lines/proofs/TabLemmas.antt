@@ -1,7 +1,7 @@
 -- Which characters are tabs, and that a tab is a cluster.
 use Rattle.std.proofs.Common.{◌≡◌, ◌∙◌, ℕ, zero, suc, ◌<◌, ◌==◌, nat_lt, true, false, List, [], ◌∷◌, length, get_or, Some, refl, sym, ap, inl, inr, arith}
 use Rattle.std.proofs.lemmas.Bool.{and_parts, and_right, cases_Bool, cond-false, eqb-true, ltb-true}
-use Rattle.ucd.specs.Classes.{is_mark}
+use Rattle.ucd.specs.Classes.{is_nonspacing_mark}
 use Rattle.ucd.specs.Tables.{class_of}
 use Rattle.ucd.specs.declared.bidi_class.BidiClass.{BidiClass}
 use Rattle.ucd.specs.declared.bidi_class.BidiClass.TheVariants.{NSM}
@@ -16,17 +16,17 @@ use Rattle.lines.specs.Clusters.{cluster_ends, ends_after, ends_at}
 use Rattle.lines.specs.Tabs.{is_segment_separator, is_tab, tab_width_in}
 use Rattle.lines.specs.declared.options.Options.{Options}
 
-mark_no_separator : (class : BidiClass) → is_mark class ≡ true → is_segment_separator class ≡ false
-mark_no_separator NSM mark = refl
-mark_no_separator class mark = cc
+nonspacing_mark_no_separator : (class : BidiClass) → is_nonspacing_mark class ≡ true → is_segment_separator class ≡ false
+nonspacing_mark_no_separator NSM mark = refl
+nonspacing_mark_no_separator class mark = cc
 
--- a mark is not a tab
-pub mark_no_tab : (t : Tables) (options : Options) (c : ℕ) → is_mark (class_of t c) ≡ true → is_tab (tab_width_in t options) c ≡ false
-mark_no_tab t options c mark =
+-- a nonspacing mark is not a tab
+pub nonspacing_mark_no_tab : (t : Tables) (options : Options) (c : ℕ) → is_nonspacing_mark (class_of t c) ≡ true → is_tab (tab_width_in t options) c ≡ false
+nonspacing_mark_no_tab t options c mark =
     elim (cases_Bool (c == 9)) [
       | inl tab ↦
-          let nine : is_mark (class_of t 9) ≡ true = ap (λ x. is_mark (class_of t x)) (sym (eqb-true c 9 tab)) ∙ mark in
-          let none : tab_width_in t options ≡ 0 = cond-false (is_segment_separator (class_of t 9)) options.tab_width 0 (mark_no_separator (class_of t 9) nine) in
+          let nine : is_nonspacing_mark (class_of t 9) ≡ true = ap (λ x. is_nonspacing_mark (class_of t x)) (sym (eqb-true c 9 tab)) ∙ mark in
+          let none : tab_width_in t options ≡ 0 = cond-false (is_segment_separator (class_of t 9)) options.tab_width 0 (nonspacing_mark_no_separator (class_of t 9) nine) in
           ap (λ n. is_tab n c) none
       | inr other ↦ and_right (nat_lt 0 (tab_width_in t options)) (c == 9) other
     ]

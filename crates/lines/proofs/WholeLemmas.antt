@@ -13,7 +13,7 @@ use Rattle.ucd.specs.declared.version.Version.{Version}
 use Rattle.ucd.specs.declared.version.Version.TheVariants.{V15_0, V17_0}
 use Rattle.ucd.specs.declared.properties.Properties.{Properties}
 use Rattle.ucd.specs.declared.tables.Tables.{Tables}
-use Rattle.breaks.specs.Bases.{Base, Character, alone, base_class, bases_of, character, class_of as base_class_of, joined, known, resolved, stays_with}
+use Rattle.breaks.specs.Bases.{BaseCharacter, Character, alone, base_class, bases_of, character, class_of as base_class_of, joined, known, resolved, stays_with}
 use Rattle.breaks.specs.Classes.{is_one_of}
 use Rattle.breaks.specs.Marks.{marks_after, marks_of}
 use Rattle.breaks.specs.Rules.{Rule, mark_by, rules, rows_before_numbers, rows_of_numbers, rows_after_numbers}
@@ -43,11 +43,11 @@ use Rattle.lines.proofs.TabLemmas.{no_tabs}
 -- ---- rules that require no mandatory break
 
 -- whether each rule has a mark other than `Must` or does not apply
-Quiet : List Rule → List Base → List Base → Type 0
+Quiet : List Rule → List BaseCharacter → List BaseCharacter → Type 0
 Quiet [] before after = Unit {0}
 Quiet (rule ∷ rules) before after = ((is_must rule.mark ≡ false) ⊎ (rule.holds before after ≡ false)) × Quiet rules before after
 
-quiet_mark : (rules : List Rule) (before after : List Base) → Quiet rules before after → is_must (mark_by rules before after) ≡ false
+quiet_mark : (rules : List Rule) (before after : List BaseCharacter) → Quiet rules before after → is_must (mark_by rules before after) ≡ false
 unfolding Quiet
 quiet_mark [] before after quiet = refl
 quiet_mark (rule ∷ rules) before after quiet =
@@ -63,7 +63,7 @@ abbrev tame : List Rule → Bool
 tame [] = true
 tame (rule ∷ rules) = not (is_must rule.mark) && tame rules
 
-tame_quiet : (rules : List Rule) (before after : List Base) → tame rules ≡ true → Quiet rules before after
+tame_quiet : (rules : List Rule) (before after : List BaseCharacter) → tame rules ≡ true → Quiet rules before after
 unfolding Quiet
 tame_quiet [] before after is = tt
 tame_quiet (rule ∷ rules) before after is =
@@ -71,10 +71,10 @@ tame_quiet (rule ∷ rules) before after is =
     (inl (not-true (is_must rule.mark) both.0), tame_quiet rules before after both.1)
 
 -- whether no rule requires a line to end after this base, except at the end of the paragraph
-abbrev ends_no_line : Base → Type 0
+abbrev ends_no_line : BaseCharacter → Type 0
 ends_no_line b = (is_one_of (BK ∷ []) (base_class_of b) ≡ false) × (is_one_of (CR ∷ LF ∷ NL ∷ []) (base_class_of b) ≡ false)
 
-quiet_rules : (v : Version) (whole_numbers : Bool) (before after : List Base) (b a : Base) → ends_no_line b → Quiet (rules v whole_numbers) (b ∷ before) (a ∷ after)
+quiet_rules : (v : Version) (whole_numbers : Bool) (before after : List BaseCharacter) (b a : BaseCharacter) → ends_no_line b → Quiet (rules v whole_numbers) (b ∷ before) (a ∷ after)
 unfolding Quiet rules rows_before_numbers rows_of_numbers rows_after_numbers
 quiet_rules V15_0 true before after b a ends = (
   inr refl,
@@ -138,7 +138,7 @@ Tame (m ∷ []) = Unit {0}
 Tame (m ∷ n ∷ marks) = (is_must m ≡ false) × Tame (n ∷ marks)
 
 -- whether no base except the last requires a line to end after it
-QuietBases : List Base → Type 0
+QuietBases : List BaseCharacter → Type 0
 QuietBases [] = Unit {0}
 QuietBases (b ∷ []) = Unit {0}
 QuietBases (b ∷ a ∷ bases) = ends_no_line b × QuietBases (a ∷ bases)
@@ -152,7 +152,7 @@ tame_inside : (attached : List Character) (marks : List Mark) → Tame marks →
 tame_inside [] marks rest = rest
 tame_inside (c ∷ attached) marks rest = tame_before Never (map (λ _. Never) attached ++ marks) refl (tame_inside attached marks rest)
 
-tame_marks : (v : Version) (whole_numbers : Bool) (before bases : List Base) → QuietBases bases → Tame (marks_after (rules v whole_numbers) before bases)
+tame_marks : (v : Version) (whole_numbers : Bool) (before bases : List BaseCharacter) → QuietBases bases → Tame (marks_after (rules v whole_numbers) before bases)
 unfolding Tame QuietBases
 tame_marks v whole_numbers before [] quiet = tt
 tame_marks v whole_numbers before (b ∷ []) quiet = tame_inside b.attached (mark_by (rules v whole_numbers) (b ∷ before) [] ∷ []) tt
@@ -182,17 +182,17 @@ whole_quiet t (c ∷ d ∷ text) is = (
   whole_quiet t (d ∷ text) (λ j below. is (suc j) (omega arith)),
 )
 
-quiet_before : (b : Base) (bases : List Base) → ends_no_line b → QuietBases bases → QuietBases (b ∷ bases)
+quiet_before : (b : BaseCharacter) (bases : List BaseCharacter) → ends_no_line b → QuietBases bases → QuietBases (b ∷ bases)
 unfolding QuietBases
 quiet_before b [] ends quiet = tt
 quiet_before b (a ∷ bases) ends quiet = (ends, quiet)
 
-rest_quiet : (b : Base) (bases : List Base) → QuietBases (b ∷ bases) → QuietBases bases
+rest_quiet : (b : BaseCharacter) (bases : List BaseCharacter) → QuietBases (b ∷ bases) → QuietBases bases
 unfolding QuietBases
 rest_quiet b [] quiet = tt
 rest_quiet b (a ∷ bases) quiet = quiet.1
 
-joined_quiet : (c : Character) (bases : List Base) → ends_none c → QuietBases bases → QuietBases (joined c bases)
+joined_quiet : (c : Character) (bases : List BaseCharacter) → ends_none c → QuietBases bases → QuietBases (joined c bases)
 unfolding QuietBases
 joined_quiet c [] ends quiet = tt
 joined_quiet c (b ∷ bases) ends quiet = quiet_before (record { first = c; attached = b.first ∷ b.attached }) bases ends (rest_quiet b bases quiet)
@@ -205,10 +205,10 @@ bases_quiet (c ∷ d ∷ text) quiet =
     let rest = bases_quiet (d ∷ text) quiet.1 in
     elim (cases_Bool (stays_with c d)) [
       | inl stays ↦
-          subst (λ (bases : List Base). QuietBases bases) (sym (cond-true (stays_with c d) (joined c (bases_of (d ∷ text))) (alone c ∷ bases_of (d ∷ text)) stays))
+          subst (λ (bases : List BaseCharacter). QuietBases bases) (sym (cond-true (stays_with c d) (joined c (bases_of (d ∷ text))) (alone c ∷ bases_of (d ∷ text)) stays))
           (joined_quiet c (bases_of (d ∷ text)) quiet.0 rest)
       | inr apart ↦
-          subst (λ (bases : List Base). QuietBases bases) (sym (cond-false (stays_with c d) (joined c (bases_of (d ∷ text))) (alone c ∷ bases_of (d ∷ text)) apart))
+          subst (λ (bases : List BaseCharacter). QuietBases bases) (sym (cond-false (stays_with c d) (joined c (bases_of (d ∷ text))) (alone c ∷ bases_of (d ∷ text)) apart))
           (quiet_before (alone c) (bases_of (d ∷ text)) quiet.0 rest)
     ]
 

@@ -1,7 +1,7 @@
 -- Properties of the visual order of a line's characters.
 use Rattle.std.specs.Prelude.{◌≡◌, ℕ, suc, ◌+◌, ◌<◌, ◌≤◌, Bool, false, true, ◌⊎◌, List, length, slice_index, All, None}
 use Rattle.reorder.specs.Order.{is_odd, AreInverse}
-use Rattle.ucd.specs.Classes.{is_mark}
+use Rattle.ucd.specs.Classes.{is_nonspacing_mark}
 use Rattle.ucd.specs.Tables.{class_of}
 use Rattle.lines.specs.CharInfos.{columns_of}
 use Rattle.lines.specs.Clusters.{ends_at}
@@ -18,11 +18,11 @@ pub record IsOrdered (line : Visual) : Type 0 where
   pub inverse : AreInverse (length line.levels) line.vtol line.ltov
   pub within : length line.levels ≤ line.len
 
--- whether marks (class NSM) stay where L2 puts them, or the paragraph is not measured and its marks occupy no
--- columns
+-- whether nonspacing marks (class NSM) stay where L2 puts them, or the paragraph is not measured and its nonspacing
+-- marks occupy no columns
 abbrev pub MarksStay : Rules → List ℕ → Type 0
 MarksStay rules text =
-    (rules.options.reordernsm ≡ false) ⊎ ((rules.advances ≡ None) × All (λ c. is_mark (class_of rules.tables c) ≡ true → columns_of c ≡ 0) text)
+    (rules.options.reordernsm ≡ false) ⊎ ((rules.advances ≡ None) × All (λ c. is_nonspacing_mark (class_of rules.tables c) ≡ true → columns_of c ≡ 0) text)
 
 -- two characters of one level run, both of which occupy columns
 pub record AreInRun (line : Visual) (j k : ℕ) : Type 0 where

@@ -12,11 +12,11 @@ abbrev pub ends_by : Options → List ℕ → List Bool
 ends_by options text = if options.reorder_clusters then cluster_ends text else []
 
 module _ (options : Options) where
-  -- whether L3 is applied, either to clusters or to marks
+  -- whether L3 is applied, either to clusters or to nonspacing marks
   abbrev pub reorders : Bool
   reorders = options.reorder_clusters || options.reordernsm
 
-  -- the classes that L3 uses: the bidi classes of the line or, with `reorder_clusters`, classes that mark the
+  -- the classes that L3 uses: the bidi classes of the line or, with `reorder_clusters`, classes that encode the
   -- clusters, given where clusters end and the levels of the shown part
   abbrev pub classes_by : List BidiClass → List Bool → List ℕ → List BidiClass
   classes_by classes ends levels = if options.reorder_clusters then cluster_classes ends levels else classes

@@ -58,8 +58,8 @@ pub fn lines_are_ordered()
 {}
 
 /// States, as a theorem, that the characters of a level run are next to each other, at any width, without
-/// `reorder_clusters`. The rules must leave marks in place, or marks must occupy no columns. Costs nothing at
-/// run time.
+/// `reorder_clusters`. The rules must leave nonspacing marks in place, or nonspacing marks must occupy no
+/// columns. Costs nothing at run time.
 pub fn runs_adjoin()
     ensures { (rules : Rules) (width : ℕ) (text : List ℕ)
         → rules.options.reorder_clusters ≡ false → MarksStay rules text
@@ -78,8 +78,8 @@ pub fn clusters_adjoin()
 
 /// States, as a theorem, that each tab ends at a tab stop, at any width. Tab stops are counted from the left
 /// edge of the line's shown part, or from the right edge in a right-to-left paragraph. Without
-/// `reorder_clusters`, the rules must leave marks in place, or marks must occupy no columns. Costs nothing at
-/// run time.
+/// `reorder_clusters`, the rules must leave nonspacing marks in place, or nonspacing marks must occupy no
+/// columns. Costs nothing at run time.
 pub fn tabs_end_at_stops()
     ensures { (rules : Rules) (width : ℕ) (text : List ℕ)
         → (rules.options.reorder_clusters ≡ true) ⊎ MarksStay rules text

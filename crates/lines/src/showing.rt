@@ -316,7 +316,7 @@ pub(crate) fn show_part(
     }
 }
 
-// Returns whether L3 is applied, either to clusters or to marks.
+// Returns whether L3 is applied, either to clusters or to nonspacing marks.
 fn reorders(options: Options) -> bool
     ensures { result ≡ reorders options }
 {

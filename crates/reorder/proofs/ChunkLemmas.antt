@@ -1,4 +1,4 @@
--- If each base with its marks is reversed before L2, L2 puts the base first.
+-- If each base with its nonspacing marks is reversed before L2, L2 puts the base first.
 use Rattle.std.proofs.Common.{◌≡◌, ℕ, zero, suc, ◌+◌, ◌-◌, ◌<◌, ◌≤◌, ◌==◌, Bool, true, false, ◌&&◌, ◌||◌, not, List, [], ◌∷◌}
 use Rattle.std.proofs.Common.{length, get_or, map, take, drop, reverse, Option, None, refl, sym, ap, subst, ◌∙◌, inl, inr, arith}
 use Rattle.std.specs.Prelude.{nat_lt}
@@ -10,22 +10,22 @@ use Rattle.std.proofs.lemmas.Slice.{drop-put_mid, take-put_mid, take-put_mid_bel
 use borrow.Rule.Slice.PartMut.{put_mid, same_len_mid}
 use Rattle.ucd.specs.declared.bidi_class.BidiClass.{BidiClass}
 use Rattle.ucd.specs.declared.bidi_class.BidiClass.TheVariants.{ON}
-use Rattle.ucd.specs.Classes.{is_mark}
+use Rattle.ucd.specs.Classes.{is_nonspacing_mark}
 use Rattle.reorder.proofs.InPlaceLemmas.{items_at_places}
 use Rattle.reorder.proofs.OrderLemmas.{length-vtol}
 use Rattle.reorder.specs.InPlace.{IsChunk}
 use Rattle.reorder.specs.Groups.{IsAlone, IsGroup, StandsTogether}
-use Rattle.reorder.specs.Order.{has_base, is_mark_at, is_odd, lowest_odd, ltov_of, order_by, order_of, precedes_mark, reverse_with_next, vtol_of, AreInverse}
+use Rattle.reorder.specs.Order.{has_base, is_nonspacing_mark_at, is_odd, lowest_odd, ltov_of, order_by, order_of, precedes_nonspacing_mark, reverse_with_next, vtol_of, AreInverse}
 
 -- ---- the groups that the scan finds
 
 module _ (classes : List BidiClass) (levels : List ℕ) where
-  -- The state of the scan after a base: `len` characters, namely the base and the marks after it, have the
+  -- The state of the scan after a base: `len` characters, namely the base and the nonspacing marks after it, have the
   -- same level.
   pub record MarksSoFar (start len : ℕ) : Type 0 where
     pub some : 0 < len
     pub within : start + len ≤ length levels
-    pub marks : (k : ℕ) → 0 < k → k < len → is_mark_at classes (start + k) ≡ true
+    pub marks : (k : ℕ) → 0 < k → k < len → is_nonspacing_mark_at classes (start + k) ≡ true
     pub same : (k : ℕ) → k < len → get_or levels (start + k) 0 ≡ get_or levels start 0
 
   pub MarksSoFar-start : (start : ℕ) → start < length levels → MarksSoFar start 1
@@ -36,23 +36,23 @@ module _ (classes : List BidiClass) (levels : List ℕ) where
     same = λ k below. ap (λ n. get_or levels n 0) (omega arith);
   }
 
-  abbrev pub is_mark_of : ℕ → ℕ → Bool
-  is_mark_of place level = nat_lt place (length levels) && (is_mark_at classes place && (get_or levels place 0 == level))
+  abbrev pub is_nonspacing_mark_of : ℕ → ℕ → Bool
+  is_nonspacing_mark_of place level = nat_lt place (length levels) && (is_nonspacing_mark_at classes place && (get_or levels place 0 == level))
 
-  pub MarksSoFar-next : (start len next : ℕ) → MarksSoFar start len → is_mark_of (start + len) (get_or levels start 0) ≡ true → next ≡ len + 1
+  pub MarksSoFar-next : (start len next : ℕ) → MarksSoFar start len → is_nonspacing_mark_of (start + len) (get_or levels start 0) ≡ true → next ≡ len + 1
       → MarksSoFar start next
   MarksSoFar-next start len next w found past =
       let level : ℕ = get_or levels start 0 in
       let place : ℕ = start + len in
-      let both = and_parts (nat_lt place (length levels)) (is_mark_at classes place && (get_or levels place 0 == level)) found in
-      let inner = and_parts (is_mark_at classes place) (get_or levels place 0 == level) both.1 in
+      let both = and_parts (nat_lt place (length levels)) (is_nonspacing_mark_at classes place && (get_or levels place 0 == level)) found in
+      let inner = and_parts (is_nonspacing_mark_at classes place) (get_or levels place 0 == level) both.1 in
       let inside : place < length levels = ltb-true place (length levels) both.0 in
       record {
         some = omega arith;
         within = omega (arith, inside, past);
         marks = λ k above below. elim (cases_lt k len) [
           | inl before ↦ w.marks k above before
-          | inr after ↦ ap (λ n. is_mark_at classes (start + n)) (omega (arith, past, after, below)) ∙ inner.0
+          | inr after ↦ ap (λ n. is_nonspacing_mark_at classes (start + n)) (omega (arith, past, after, below)) ∙ inner.0
         ];
         same = λ k below. elim (cases_lt k len) [
           | inl before ↦ w.same k before
@@ -60,24 +60,24 @@ module _ (classes : List BidiClass) (levels : List ℕ) where
         ];
       }
 
-  -- the character at which the scan ends is not a mark of the base
-  stops : (start place : ℕ) → is_mark_of place (get_or levels start 0) ≡ false → is_odd (get_or levels start 0) ≡ true
-      → is_mark_at classes place ≡ true → get_or levels place 0 ≡ get_or levels start 0 → ⊥
+  -- the character at which the scan ends is not a nonspacing mark of the base
+  stops : (start place : ℕ) → is_nonspacing_mark_of place (get_or levels start 0) ≡ false → is_odd (get_or levels start 0) ≡ true
+      → is_nonspacing_mark_at classes place ≡ true → get_or levels place 0 ≡ get_or levels start 0 → ⊥
   stops start place ended odd marked same =
       let level : ℕ = get_or levels start 0 in
       elim (cases_lt place (length levels)) [
-        | inl inside ↦ both_ways (is_mark_of place level) ended
-            (and_from (nat_lt place (length levels)) (is_mark_at classes place && (get_or levels place 0 == level)) (lt-ltb place (length levels) inside)
-            (and_from (is_mark_at classes place) (get_or levels place 0 == level) marked (eq-eqb (get_or levels place 0) level same)))
+        | inl inside ↦ both_ways (is_nonspacing_mark_of place level) ended
+            (and_from (nat_lt place (length levels)) (is_nonspacing_mark_at classes place && (get_or levels place 0 == level)) (lt-ltb place (length levels) inside)
+            (and_from (is_nonspacing_mark_at classes place) (get_or levels place 0 == level) marked (eq-eqb (get_or levels place 0) level same)))
         | inr past ↦ both_ways (is_odd level) (ap is_odd (sym same ∙ get_or_past levels place 0 past)) odd
       ]
 
-  no_base_after : (i : ℕ) → precedes_mark classes levels i ≡ false → has_base classes levels (suc i) ≡ false
-  no_base_after i none = and_left (precedes_mark classes levels i) (not (is_mark_at classes i) || has_base classes levels i) none
+  no_base_after : (i : ℕ) → precedes_nonspacing_mark classes levels i ≡ false → has_base classes levels (suc i) ≡ false
+  no_base_after i none = and_left (precedes_nonspacing_mark classes levels i) (not (is_nonspacing_mark_at classes i) || has_base classes levels i) none
 
-  -- a base with all its marks is a chunk, and the character directly after the chunk has no base
-  pub group_is : (start len : ℕ) → MarksSoFar start len → is_mark_of (start + len) (get_or levels start 0) ≡ false → is_odd (get_or levels start 0) ≡ true
-      → is_mark_at classes start ≡ false → IsChunk classes levels start len × (has_base classes levels (start + len) ≡ false)
+  -- a base with all its nonspacing marks is a chunk, and the character directly after the chunk has no base
+  pub group_is : (start len : ℕ) → MarksSoFar start len → is_nonspacing_mark_of (start + len) (get_or levels start 0) ≡ false → is_odd (get_or levels start 0) ≡ true
+      → is_nonspacing_mark_at classes start ≡ false → IsChunk classes levels start len × (has_base classes levels (start + len) ≡ false)
   group_is start len w ended odd plain =
       let level : ℕ = get_or levels start 0 in
       let n : ℕ = len - 1 in
@@ -85,13 +85,13 @@ module _ (classes : List BidiClass) (levels : List ℕ) where
       let next : start + len ≡ suc last = omega (arith, w.some) in
       let more : last + 1 ≡ start + len = omega (arith, w.some) in
       let at_last : get_or levels last 0 ≡ level = w.same n (omega (arith, w.some)) in
-      let none : precedes_mark classes levels last ≡ false =
-      elim (cases_Bool (precedes_mark classes levels last)) [
+      let none : precedes_nonspacing_mark classes levels last ≡ false =
+      elim (cases_Bool (precedes_nonspacing_mark classes levels last)) [
         | inr e ↦ e
         | inl found ↦
-            let parts = and_parts (is_mark_at classes (suc last)) (is_odd (get_or levels last 0) && (get_or levels (suc last) 0 == get_or levels last 0)) found in
+            let parts = and_parts (is_nonspacing_mark_at classes (suc last)) (is_odd (get_or levels last 0) && (get_or levels (suc last) 0 == get_or levels last 0)) found in
             let inner = and_parts (is_odd (get_or levels last 0)) (get_or levels (suc last) 0 == get_or levels last 0) parts.1 in
-            absurd (stops start (start + len) ended odd (ap (is_mark_at classes) next ∙ parts.0)
+            absurd (stops start (start + len) ended odd (ap (is_nonspacing_mark_at classes) next ∙ parts.0)
             (ap (λ m. get_or levels m 0) next ∙ eqb-true (get_or levels (suc last) 0) (get_or levels last 0) inner.1 ∙ at_last))
       ] in (
         inl (record {
@@ -99,7 +99,7 @@ module _ (classes : List BidiClass) (levels : List ℕ) where
           odd = odd;
           marks = λ k above below. w.marks k above (omega (arith, w.some, below));
           same = λ k below. w.same k (omega (arith, w.some, below));
-          whole = λ marked same. stops start (start + len) ended odd (ap (is_mark_at classes) (sym more) ∙ marked) (ap (λ m. get_or levels m 0) (sym more) ∙ same);
+          whole = λ marked same. stops start (start + len) ended odd (ap (is_nonspacing_mark_at classes) (sym more) ∙ marked) (ap (λ m. get_or levels m 0) (sym more) ∙ same);
         }),
         ap (has_base classes levels) next ∙ no_base_after last none,
       )
@@ -114,13 +114,13 @@ module _ (classes : List BidiClass) (levels : List ℕ) where
   pub alone_even : (start next : ℕ) → has_base classes levels start ≡ false → is_odd (get_or levels start 0) ≡ false → next ≡ start + 1
       → IsChunk classes levels start 1 × (has_base classes levels next ≡ false)
   alone_even start next none even past =
-      alone start next none (no_base_after start (and_right (is_mark_at classes (suc start)) (is_odd (get_or levels start 0) && (get_or levels (suc start) 0 == get_or levels start 0))
+      alone start next none (no_base_after start (and_right (is_nonspacing_mark_at classes (suc start)) (is_odd (get_or levels start 0) && (get_or levels (suc start) 0 == get_or levels start 0))
       (and_left (is_odd (get_or levels start 0)) (get_or levels (suc start) 0 == get_or levels start 0) even))) past
 
-  pub alone_mark : (start next : ℕ) → has_base classes levels start ≡ false → is_mark_at classes start ≡ true → next ≡ start + 1
+  pub alone_mark : (start next : ℕ) → has_base classes levels start ≡ false → is_nonspacing_mark_at classes start ≡ true → next ≡ start + 1
       → IsChunk classes levels start 1 × (has_base classes levels next ≡ false)
   alone_mark start next none marked past =
-      alone start next none (and_right (precedes_mark classes levels start) (not (is_mark_at classes start) || has_base classes levels start)
+      alone start next none (and_right (precedes_nonspacing_mark classes levels start) (not (is_nonspacing_mark_at classes start) || has_base classes levels start)
       (ap (λ b. not b || has_base classes levels start) marked ∙ none)) past
 
 pub plain_order : (classes : List BidiClass) (levels : List ℕ) → vtol_of false classes levels ≡ order_of levels
@@ -250,22 +250,22 @@ unfolding vtol_of
 without_bases false classes levels none = refl
 without_bases true classes levels none = none_reversed (has_base classes levels) (order_of levels) none
 
-base_of_mark : (classes : List BidiClass) (levels : List ℕ) (place : ℕ) → ((i : ℕ) → precedes_mark classes levels i ≡ false) → has_base classes levels place ≡ false
+base_of_mark : (classes : List BidiClass) (levels : List ℕ) (place : ℕ) → ((i : ℕ) → precedes_nonspacing_mark classes levels i ≡ false) → has_base classes levels place ≡ false
 base_of_mark classes levels zero none = refl
 base_of_mark classes levels (suc i) none = no_base_after classes levels i (none i)
 
-pub without_marks : (asked : Bool) (classes : List BidiClass) (levels : List ℕ) → list_any is_mark classes ≡ false
+pub without_marks : (asked : Bool) (classes : List BidiClass) (levels : List ℕ) → list_any is_nonspacing_mark classes ≡ false
     → vtol_of asked classes levels ≡ order_of levels
 without_marks asked classes levels unmarked =
-    let none : (k : ℕ) → is_mark_at classes k ≡ false = λ k. elim (cases_lt k (length classes)) [
-      | inl within ↦ elim (cases_Bool (is_mark_at classes k)) [
+    let none : (k : ℕ) → is_nonspacing_mark_at classes k ≡ false = λ k. elim (cases_lt k (length classes)) [
+      | inl within ↦ elim (cases_Bool (is_nonspacing_mark_at classes k)) [
         | inr e ↦ e
-        | inl marked ↦ absurd (both_ways (list_any is_mark classes) unmarked (list_any_at is_mark classes k ON within marked))
+        | inl marked ↦ absurd (both_ways (list_any is_nonspacing_mark classes) unmarked (list_any_at is_nonspacing_mark classes k ON within marked))
       ]
-      | inr past ↦ ap is_mark (get_or_past classes k ON past)
+      | inr past ↦ ap is_nonspacing_mark (get_or_past classes k ON past)
     ] in
     without_bases asked classes levels (λ place. base_of_mark classes levels place
-    (λ i. and_left (is_mark_at classes (suc i)) (is_odd (get_or levels i 0) && (get_or levels (suc i) 0 == get_or levels i 0)) (none (suc i))))
+    (λ i. and_left (is_nonspacing_mark_at classes (suc i)) (is_odd (get_or levels i 0) && (get_or levels (suc i) 0 == get_or levels i 0)) (none (suc i))))
 
 pub without_odd : (asked : Bool) (classes : List BidiClass) (levels : List ℕ) → ((k : ℕ) → k < length levels → is_odd (get_or levels k 0) ≡ false)
     → vtol_of asked classes levels ≡ order_of levels
@@ -275,7 +275,7 @@ without_odd asked classes levels even =
       | inr past ↦ ap is_odd (get_or_past levels k 0 past)
     ] in
     without_bases asked classes levels (λ place. base_of_mark classes levels place
-    (λ i. and_right (is_mark_at classes (suc i)) (is_odd (get_or levels i 0) && (get_or levels (suc i) 0 == get_or levels i 0))
+    (λ i. and_right (is_nonspacing_mark_at classes (suc i)) (is_odd (get_or levels i 0) && (get_or levels (suc i) 0 == get_or levels i 0))
     (and_left (is_odd (get_or levels i 0)) (get_or levels (suc i) 0 == get_or levels i 0) (all i))))
 
 -- if no level is odd, the visual order is the logical order, with or without L3

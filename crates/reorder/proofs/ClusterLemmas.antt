@@ -5,12 +5,12 @@ use Rattle.std.proofs.lemmas.Bool.{and_left, and_parts, and_right, both_ways, ca
 use Rattle.std.proofs.lemmas.List.{get_or-map, get_or_past}
 use Rattle.std.proofs.lemmas.List.FromFn.{get_or-range_with_len, length-map-range_with_len, length-range_with_len}
 use Rattle.std.specs.Prelude.{if◌then◌else◌}
-use Rattle.ucd.specs.Classes.{class_at, is_mark}
+use Rattle.ucd.specs.Classes.{class_at, is_nonspacing_mark}
 use Rattle.ucd.specs.declared.bidi_class.BidiClass.{BidiClass}
 use Rattle.ucd.specs.declared.bidi_class.BidiClass.TheVariants.{NSM, ON}
 use Rattle.reorder.specs.Clusters.{cluster_classes, is_joined, joined_class, IsSequence, IsSingle}
 use Rattle.reorder.specs.Groups.{IsAlone, IsGroup, StandsTogether}
-use Rattle.reorder.specs.Order.{has_base, is_mark_at, is_odd, precedes_mark, vtol_of}
+use Rattle.reorder.specs.Order.{has_base, is_nonspacing_mark_at, is_odd, precedes_nonspacing_mark, vtol_of}
 use Rattle.reorder.proofs.TogetherLemmas.{stays, together}
 
 pub length-cluster_classes : (ends : List Bool) (levels : List ℕ) → length (cluster_classes ends levels) ≡ length levels
@@ -30,21 +30,21 @@ module _ (ends : List Bool) (levels : List ℕ) where
   class_by : Bool → BidiClass
   class_by joined = if joined then NSM else ON
 
-  pub marked : (i : ℕ) → i < length levels → is_joined ends levels i ≡ true → is_mark_at classes i ≡ true
+  pub marked : (i : ℕ) → i < length levels → is_joined ends levels i ≡ true → is_nonspacing_mark_at classes i ≡ true
   unfolding class_by
-  marked i within joined = ap is_mark (class_is ends levels i within) ∙ ap (λ b. is_mark (class_by b)) joined
+  marked i within joined = ap is_nonspacing_mark (class_is ends levels i within) ∙ ap (λ b. is_nonspacing_mark (class_by b)) joined
 
-  pub unmarked : (i : ℕ) → is_joined ends levels i ≡ false → is_mark_at classes i ≡ false
+  pub unmarked : (i : ℕ) → is_joined ends levels i ≡ false → is_nonspacing_mark_at classes i ≡ false
   unfolding class_by
   unmarked i begins = elim (cases_lt i (length levels)) [
-    | inl within ↦ ap is_mark (class_is ends levels i within) ∙ ap (λ b. is_mark (class_by b)) begins
-    | inr past ↦ ap is_mark (get_or_past classes i ON (omega (arith, past, length-cluster_classes ends levels)))
+    | inl within ↦ ap is_nonspacing_mark (class_is ends levels i within) ∙ ap (λ b. is_nonspacing_mark (class_by b)) begins
+    | inr past ↦ ap is_nonspacing_mark (get_or_past classes i ON (omega (arith, past, length-cluster_classes ends levels)))
   ]
 
-  pub joined_of : (i : ℕ) → is_mark_at classes i ≡ true → is_joined ends levels i ≡ true
+  pub joined_of : (i : ℕ) → is_nonspacing_mark_at classes i ≡ true → is_joined ends levels i ≡ true
   joined_of i mark = elim (cases_Bool (is_joined ends levels i)) [
     | inl e ↦ e
-    | inr none ↦ absurd (both_ways (is_mark_at classes i) (unmarked i none) mark)
+    | inr none ↦ absurd (both_ways (is_nonspacing_mark_at classes i) (unmarked i none) mark)
   ]
 
   odd_within : (i : ℕ) → is_odd (get_or levels i 0) ≡ true → i < length levels
@@ -78,16 +78,16 @@ module _ (ends : List Bool) (levels : List ℕ) where
   pub sequences : (first n : ℕ) → IsSequence ends levels first n → StandsTogether classes levels first n
   sequences first n is = together classes levels first n (group_of first n is)
 
-  none_after : (i : ℕ) → is_mark_at classes (suc i) ≡ false → has_base classes levels (suc i) ≡ false
+  none_after : (i : ℕ) → is_nonspacing_mark_at classes (suc i) ≡ false → has_base classes levels (suc i) ≡ false
   none_after i none =
-      and_left (precedes_mark classes levels i) (not (is_mark_at classes i) || has_base classes levels i)
-      (and_left (is_mark_at classes (suc i)) (is_odd (get_or levels i 0) && (get_or levels (suc i) 0 == get_or levels i 0)) none)
+      and_left (precedes_nonspacing_mark classes levels i) (not (is_nonspacing_mark_at classes i) || has_base classes levels i)
+      (and_left (is_nonspacing_mark_at classes (suc i)) (is_odd (get_or levels i 0) && (get_or levels (suc i) 0 == get_or levels i 0)) none)
 
   even_after : (i : ℕ) → is_odd (get_or levels i 0) ≡ false → has_base classes levels (suc i) ≡ false
   even_after i even =
       let same : Bool = get_or levels (suc i) 0 == get_or levels i 0 in
-      and_left (precedes_mark classes levels i) (not (is_mark_at classes i) || has_base classes levels i)
-      (and_right (is_mark_at classes (suc i)) (is_odd (get_or levels i 0) && same) (and_left (is_odd (get_or levels i 0)) same even))
+      and_left (precedes_nonspacing_mark classes levels i) (not (is_nonspacing_mark_at classes i) || has_base classes levels i)
+      (and_right (is_nonspacing_mark_at classes (suc i)) (is_odd (get_or levels i 0) && same) (and_left (is_odd (get_or levels i 0)) same even))
 
   even_here : (i : ℕ) → is_odd (get_or levels i 0) ≡ false → has_base classes levels i ≡ false
   even_here zero even = refl
@@ -97,8 +97,8 @@ module _ (ends : List Bool) (levels : List ℕ) where
       elim (cases_Bool same) [
         | inl e ↦ even_after i (ap is_odd (sym (eqb-true (get_or levels (suc i) 0) (get_or levels i 0) e)) ∙ even)
         | inr ne ↦
-            and_left (precedes_mark classes levels i) (not (is_mark_at classes i) || has_base classes levels i)
-            (and_right (is_mark_at classes (suc i)) (odd && same) (and_right odd same ne))
+            and_left (precedes_nonspacing_mark classes levels i) (not (is_nonspacing_mark_at classes i) || has_base classes levels i)
+            (and_right (is_nonspacing_mark_at classes (suc i)) (odd && same) (and_right odd same ne))
       ]
 
   single_here : (i : ℕ) → is_joined ends levels i ≡ false → has_base classes levels i ≡ false

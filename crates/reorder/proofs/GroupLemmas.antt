@@ -8,7 +8,7 @@ use Rattle.ucd.specs.declared.bidi_class.BidiClass.{BidiClass}
 use borrow.Rule.Slice.PartMut.{put_mid}
 use Rattle.ucd.specs.Within.{AreWithin}
 use Rattle.reorder.specs.Groups.{is_bound, AreBound}
-use Rattle.reorder.specs.Order.{has_base, is_mark_at, is_odd, order_of, precedes_mark, reverse_with_next}
+use Rattle.reorder.specs.Order.{has_base, is_nonspacing_mark_at, is_odd, order_of, precedes_nonspacing_mark, reverse_with_next}
 use Rattle.reorder.proofs.InverseLemmas.{permuted_places, ArePlaces}
 use Rattle.reorder.proofs.NeighbourLemmas.{neighbours, Adjacent}
 use Rattle.reorder.proofs.OrderLemmas.{length-order, order_of_permutes}
@@ -42,67 +42,67 @@ rest_within levels xs start is k below =
     let at : get_or xs k 0 ≡ get_or order (start + k) 0 = ap (λ (zs : List ℕ). get_or zs k 0) is ∙ get_or-drop start order k 0 in
     omega (arith, at, p.within (start + k) (omega (arith, below, ap length is, length-drop start order, p.sizes)))
 
--- a mark at the same odd level as the character before it is directly to the left of that character
+-- a nonspacing mark at the same odd level as the character before it is directly to the left of that character
 pub mark_stands : (classes : List BidiClass) (levels : List ℕ) (k i : ℕ) → k < length levels → get_or (order_of levels) k 0 ≡ suc i
-    → precedes_mark classes levels i ≡ true → (suc k < length levels) × (get_or (order_of levels) (suc k) 0 ≡ i)
+    → precedes_nonspacing_mark classes levels i ≡ true → (suc k < length levels) × (get_or (order_of levels) (suc k) 0 ≡ i)
 mark_stands classes levels k i within here some =
     let odd : Bool = is_odd (get_or levels i 0) in
     let same : Bool = get_or levels (suc i) 0 == get_or levels i 0 in
-    let parts = and_parts odd same (and_parts (is_mark_at classes (suc i)) (odd && same) some).1 in
+    let parts = and_parts odd same (and_parts (is_nonspacing_mark_at classes (suc i)) (odd && same) some).1 in
     adjacent_at (length levels) (order_of levels) (suc i) i k (permuted_places (length levels) (order_of levels) (order_of_permutes levels))
     (neighbours levels i parts.0 (eqb-true (get_or levels (suc i) 0) (get_or levels i 0) parts.1)) within here
 
--- ---- marks that have a base
+-- ---- nonspacing marks that have a base
 
 module _ (classes : List BidiClass) (levels : List ℕ) where
-  bound_is : (x y : ℕ) → is_bound classes levels x y ≡ true → (x ≡ suc y) × (precedes_mark classes levels y ≡ true)
+  bound_is : (x y : ℕ) → is_bound classes levels x y ≡ true → (x ≡ suc y) × (precedes_nonspacing_mark classes levels y ≡ true)
   bound_is x y is =
-      let rest : ℕ → Bool = λ z. is_mark_at classes z && (is_odd (get_or levels y 0) && (get_or levels z 0 == get_or levels y 0)) in
+      let rest : ℕ → Bool = λ z. is_nonspacing_mark_at classes z && (is_odd (get_or levels y 0) && (get_or levels z 0 == get_or levels y 0)) in
       let parts = and_parts (y + 1 == x) (rest x) is in
       let e : x ≡ suc y = sym (eqb-true (y + 1) x parts.0) ∙ add-one y in
       (e, ap rest (sym e) ∙ parts.1)
 
-  mark_of : (x y : ℕ) → is_bound classes levels x y ≡ true → is_mark_at classes x ≡ true
+  mark_of : (x y : ℕ) → is_bound classes levels x y ≡ true → is_nonspacing_mark_at classes x ≡ true
   mark_of x y is =
       let test : Bool = is_odd (get_or levels y 0) && (get_or levels x 0 == get_or levels y 0) in
-      (and_parts (is_mark_at classes x) test (and_parts (y + 1 == x) (is_mark_at classes x && test) is).1).0
+      (and_parts (is_nonspacing_mark_at classes x) test (and_parts (y + 1 == x) (is_nonspacing_mark_at classes x && test) is).1).0
 
-  bound_back : (y : ℕ) → precedes_mark classes levels y ≡ true → is_bound classes levels (suc y) y ≡ true
-  bound_back y is = and_from (y + 1 == suc y) (precedes_mark classes levels y) (eq-eqb (y + 1) (suc y) (add-one y)) is
+  bound_back : (y : ℕ) → precedes_nonspacing_mark classes levels y ≡ true → is_bound classes levels (suc y) y ≡ true
+  bound_back y is = and_from (y + 1 == suc y) (precedes_nonspacing_mark classes levels y) (eq-eqb (y + 1) (suc y) (add-one y)) is
 
-  base_of : (x y : ℕ) → is_bound classes levels x y ≡ true → has_base classes levels x ≡ (not (is_mark_at classes y) || has_base classes levels y)
+  base_of : (x y : ℕ) → is_bound classes levels x y ≡ true → has_base classes levels x ≡ (not (is_nonspacing_mark_at classes y) || has_base classes levels y)
   base_of x y is =
       let parts = bound_is x y is in
-      ap (has_base classes levels) parts.0 ∙ ap (λ b. b && (not (is_mark_at classes y) || has_base classes levels y)) parts.1
+      ap (has_base classes levels) parts.0 ∙ ap (λ b. b && (not (is_nonspacing_mark_at classes y) || has_base classes levels y)) parts.1
 
-  -- if n positions are each bound to the next, and the last character is not a mark, all characters before it
-  -- have a base
-  based : (xs : List ℕ) (n d k : ℕ) → AreBound classes levels xs n → is_mark_at classes (get_or xs n 0) ≡ false → k + suc d ≡ n
+  -- if n positions are each bound to the next, and the last character is not a nonspacing mark, all characters before
+  -- it have a base
+  based : (xs : List ℕ) (n d k : ℕ) → AreBound classes levels xs n → is_nonspacing_mark_at classes (get_or xs n 0) ≡ false → k + suc d ≡ n
       → has_base classes levels (get_or xs k 0) ≡ true
   based xs n zero k are plain e =
       let next : ℕ = get_or xs (k + 1) 0 in
       let last : k + 1 ≡ n = omega (arith, e) in
       base_of (get_or xs k 0) next (are.bound k (omega (arith, e)))
-      ∙ ap (λ mark. not mark || has_base classes levels next) (ap (λ m. is_mark_at classes (get_or xs m 0)) last ∙ plain)
+      ∙ ap (λ mark. not mark || has_base classes levels next) (ap (λ m. is_nonspacing_mark_at classes (get_or xs m 0)) last ∙ plain)
   based xs n (suc d) k are plain e =
       let next : ℕ = get_or xs (k + 1) 0 in
       base_of (get_or xs k 0) next (are.bound k (omega (arith, e)))
-      ∙ or_right (not (is_mark_at classes next)) (has_base classes levels next) (based xs n d (k + 1) are plain (omega (arith, e)))
+      ∙ or_right (not (is_nonspacing_mark_at classes next)) (has_base classes levels next) (based xs n d (k + 1) are plain (omega (arith, e)))
 
-  -- if n positions are each bound to the next, and the last character is a mark without a base, none of these
-  -- characters has a base
-  unbased : (xs : List ℕ) (n d k : ℕ) → AreBound classes levels xs n → is_mark_at classes (get_or xs n 0) ≡ true
+  -- if n positions are each bound to the next, and the last character is a nonspacing mark without a base, none of
+  -- these characters has a base
+  unbased : (xs : List ℕ) (n d k : ℕ) → AreBound classes levels xs n → is_nonspacing_mark_at classes (get_or xs n 0) ≡ true
       → has_base classes levels (get_or xs n 0) ≡ false → k + d ≡ n → has_base classes levels (get_or xs k 0) ≡ false
   unbased xs n zero k are mark free e =
       let last : k ≡ n = omega (arith, e) in
       ap (λ m. has_base classes levels (get_or xs m 0)) last ∙ free
   unbased xs n (suc d) k are mark free e =
       let next : ℕ = get_or xs (k + 1) 0 in
-      let marked : is_mark_at classes next ≡ true = elim (cases_lt (k + 1) n) [
+      let marked : is_nonspacing_mark_at classes next ≡ true = elim (cases_lt (k + 1) n) [
         | inl more ↦ mark_of next (get_or xs (k + 1 + 1) 0) (are.bound (k + 1) more)
         | inr last ↦
             let same : k + 1 ≡ n = omega (arith, last, e) in
-            ap (λ m. is_mark_at classes (get_or xs m 0)) same ∙ mark
+            ap (λ m. is_nonspacing_mark_at classes (get_or xs m 0)) same ∙ mark
       ] in
       base_of (get_or xs k 0) next (are.bound k (omega (arith, e)))
       ∙ ap₂ (λ (m b : Bool). not m || b) marked (unbased xs n d (k + 1) are mark free (omega (arith, e)))
@@ -112,9 +112,9 @@ module _ (classes : List BidiClass) (levels : List ℕ) where
       → has_base classes levels z ≡ false
   free_of start xs n zero is are here = refl
   free_of start xs n (suc i) is are here =
-      let rest : Bool = not (is_mark_at classes i) || has_base classes levels i in
-      elim (cases_Bool (precedes_mark classes levels i)) [
-        | inr none ↦ and_left (precedes_mark classes levels i) rest none
+      let rest : Bool = not (is_nonspacing_mark_at classes i) || has_base classes levels i in
+      elim (cases_Bool (precedes_nonspacing_mark classes levels i)) [
+        | inr none ↦ and_left (precedes_nonspacing_mark classes levels i) rest none
         | inl some ↦
             let order : List ℕ = order_of levels in
             let at : (k : ℕ) → get_or xs k 0 ≡ get_or order (start + k) 0 = λ k. ap (λ (zs : List ℕ). get_or zs k 0) is ∙ get_or-drop start order k 0 in
@@ -150,18 +150,18 @@ reversed test xs n within passes stops =
     ∙ ap (λ front. front ++ reverse_with_next test [] (drop (suc n) xs)) (append-nil (reverse (take (suc n) xs)))
 
 -- items that fail the test keep their positions
-pub stayed : (test : ℕ → Bool) (xs : List ℕ) (n : ℕ) → n < length xs → ((k : ℕ) → k ≤ n → test (get_or xs k 0) ≡ false)
+pub kept_in_place : (test : ℕ → Bool) (xs : List ℕ) (n : ℕ) → n < length xs → ((k : ℕ) → k ≤ n → test (get_or xs k 0) ≡ false)
     → reverse_with_next test [] xs ≡ take (suc n) xs ++ reverse_with_next test [] (drop (suc n) xs)
-stayed test [] n within fails = absurd (omega (arith, within))
-stayed test (x ∷ xs) zero within fails =
+kept_in_place test [] n within fails = absurd (omega (arith, within))
+kept_in_place test (x ∷ xs) zero within fails =
     cond-false (test x) (reverse_with_next test (x ∷ []) xs) (x ∷ reverse_with_next test [] xs) (fails 0 (omega arith))
-stayed test (x ∷ xs) (suc n) within fails =
+kept_in_place test (x ∷ xs) (suc n) within fails =
     cond-false (test x) (reverse_with_next test (x ∷ []) xs) (x ∷ reverse_with_next test [] xs) (fails 0 (omega arith))
-    ∙ ap (λ zs. x ∷ zs) (stayed test xs n (omega (arith, within)) (λ k h. fails (suc k) (omega (arith, h))))
+    ∙ ap (λ zs. x ∷ zs) (kept_in_place test xs n (omega (arith, within)) (λ k h. fails (suc k) (omega (arith, h))))
 
 module _ (classes : List BidiClass) (levels : List ℕ) (start : ℕ) (xs : List ℕ) (n : ℕ) (is : xs ≡ drop start (order_of levels)) (are : AreBound classes levels xs n) where
-  -- if a base comes after n bound marks, these n + 1 positions are reversed together
-  pub group_reversed : is_mark_at classes (get_or xs n 0) ≡ false
+  -- if a base comes after n bound nonspacing marks, these n + 1 positions are reversed together
+  pub group_reversed : is_nonspacing_mark_at classes (get_or xs n 0) ≡ false
       → reverse_with_next (has_base classes levels) [] xs ≡ reverse (take (suc n) xs) ++ reverse_with_next (has_base classes levels) [] (drop (suc n) xs)
   group_reversed plain =
       reversed (has_base classes levels) xs n are.within
@@ -170,11 +170,11 @@ module _ (classes : List BidiClass) (levels : List ℕ) (start : ℕ) (xs : List
       based classes levels xs n (n - suc k) k are plain d)
       (free_of classes levels start xs n (get_or xs n 0) is are refl)
 
-  -- if a mark without a base comes after n bound marks, these n + 1 positions stay unchanged
-  pub marks_stay : is_mark_at classes (get_or xs n 0) ≡ true
+  -- if a nonspacing mark without a base comes after n bound nonspacing marks, these n + 1 positions stay unchanged
+  pub marks_stay : is_nonspacing_mark_at classes (get_or xs n 0) ≡ true
       → reverse_with_next (has_base classes levels) [] xs ≡ take (suc n) xs ++ reverse_with_next (has_base classes levels) [] (drop (suc n) xs)
   marks_stay mark =
-      stayed (has_base classes levels) xs n are.within
+      kept_in_place (has_base classes levels) xs n are.within
       (λ k h.
       let d : k + (n - k) ≡ n = omega (arith, h) in
       unbased classes levels xs n (n - k) k are mark (free_of classes levels start xs n (get_or xs n 0) is are refl) d)
@@ -184,7 +184,7 @@ module _ (classes : List BidiClass) (levels : List ℕ) (start : ℕ) (xs : List
 
   -- if the group at the front of `xs` has been reversed in `new`, `done xs` is this group followed by `done`
   -- of the rest
-  pub group_written : (ys new : List ℕ) → is_mark_at classes (get_or xs n 0) ≡ false → ys ≡ reverse (take (n + 1) xs) → new ≡ ys ++ drop (n + 1) xs
+  pub group_written : (ys new : List ℕ) → is_nonspacing_mark_at classes (get_or xs n 0) ≡ false → ys ≡ reverse (take (n + 1) xs) → new ≡ ys ++ drop (n + 1) xs
       → done xs ≡ take (n + 1) new ++ done (drop (n + 1) xs)
   group_written ys new plain written whole =
       let size : length ys ≡ n + 1 =
@@ -193,7 +193,7 @@ module _ (classes : List BidiClass) (levels : List ℕ) (start : ℕ) (xs : List
       group_reversed plain ∙ ap (λ k. reverse (take k xs) ++ done (drop k xs)) (sym (add-one n))
       ∙ ap (λ zs. zs ++ done (drop (n + 1) xs)) (sym front)
 
-  pub marks_kept : (new : List ℕ) → is_mark_at classes (get_or xs n 0) ≡ true → new ≡ xs → done xs ≡ take (n + 1) new ++ done (drop (n + 1) xs)
+  pub marks_kept : (new : List ℕ) → is_nonspacing_mark_at classes (get_or xs n 0) ≡ true → new ≡ xs → done xs ≡ take (n + 1) new ++ done (drop (n + 1) xs)
   marks_kept new mark same =
       marks_stay mark ∙ ap (λ k. take k xs ++ done (drop k xs)) (sym (add-one n))
       ∙ ap (λ zs. take (n + 1) zs ++ done (drop (n + 1) xs)) (sym same)

@@ -12,7 +12,7 @@ use Rattle.ucd.specs.declared.tables.Tables.{Tables}
 use Rattle.ucd.specs.Classes.{class_in}
 use Rattle.ucd.specs.Within.{AreWithin}
 use Rattle.reorder.specs.Mirroring.{mirrored, visual_chars}
-use Rattle.reorder.specs.Order.{has_base, has_odd, highest, is_mark_at, is_odd, lowest_odd, ltov_of, order_of, places, precedes_mark, reverse_with_next, vtol_of}
+use Rattle.reorder.specs.Order.{has_base, has_odd, highest, is_nonspacing_mark_at, is_odd, lowest_odd, ltov_of, order_of, places, precedes_nonspacing_mark, reverse_with_next, vtol_of}
 use Rattle.reorder.proofs.InverseLemmas.{inverse_maps}
 use Rattle.reorder.proofs.LevelLemmas.{least_none}
 use Rattle.reorder.proofs.OrderLemmas.{without_odd}
@@ -52,15 +52,15 @@ plain_order levels evens =
     let none : lowest_odd levels ≡ None = least_none (has_odd levels) 0 (suc (highest levels)) (λ m. none_odd levels m evens) in
     without_odd levels (places levels) refl (sym none)
 
--- if all levels are even, no mark has a base
+-- if all levels are even, no nonspacing mark has a base
 without_base : (classes : List BidiClass) (levels : List ℕ) (i : ℕ) → AreEven levels → has_base classes levels i ≡ false
 without_base classes levels zero evens = refl
 without_base classes levels (suc i) evens =
-    let rest : Bool = not (is_mark_at classes i) || has_base classes levels i in
+    let rest : Bool = not (is_nonspacing_mark_at classes i) || has_base classes levels i in
     let same : Bool = get_or levels (suc i) 0 == get_or levels i 0 in
-    let none : precedes_mark classes levels i ≡ false =
-    ap (λ odd. is_mark_at classes (suc i) && (odd && same)) (evens i) ∙ and_right (is_mark_at classes (suc i)) false refl in
-    and_left (precedes_mark classes levels i) rest none
+    let none : precedes_nonspacing_mark classes levels i ≡ false =
+    ap (λ odd. is_nonspacing_mark_at classes (suc i) && (odd && same)) (evens i) ∙ and_right (is_nonspacing_mark_at classes (suc i)) false refl in
+    and_left (precedes_nonspacing_mark classes levels i) rest none
 
 passed_by : (test : ℕ → Bool) (xs : List ℕ) → ((i : ℕ) → test i ≡ false) → reverse_with_next test [] xs ≡ xs
 passed_by test [] fails = refl

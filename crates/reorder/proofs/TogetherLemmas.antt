@@ -1,4 +1,4 @@
--- A base and its marks are adjacent in the visual order of a line.
+-- A base and its nonspacing marks are adjacent in the visual order of a line.
 use Rattle.std.proofs.Common.{◌≡◌, ℕ, zero, suc, ◌+◌, ◌-◌, ◌<◌, ◌≤◌, ◌==◌, Bool, true, false, ◌&&◌, ◌||◌, not, List, []}
 use Rattle.std.proofs.Common.{◌∷◌, ◌++◌, length, get_or, take, drop, reverse, refl, sym, ap, subst, ◌∙◌, inl, inr, arith, append_assoc}
 use Rattle.std.proofs.lemmas.Bool.{and_from, and_left, and_parts, both_ways, cases_Bool, cases_lt, cond-true, cond-false, eq-eqb, eqb-true, or_left, or_right}
@@ -8,7 +8,7 @@ use Rattle.std.proofs.Math.ListN.{get_or-append}
 use Rattle.std.specs.Prelude.{⊤}
 use Rattle.ucd.specs.declared.bidi_class.BidiClass.{BidiClass}
 use Rattle.reorder.specs.Groups.{IsAlone, IsGroup, StandsTogether}
-use Rattle.reorder.specs.Order.{has_base, is_mark_at, is_odd, order_of, precedes_mark, reverse_with_next, vtol_of}
+use Rattle.reorder.specs.Order.{has_base, is_nonspacing_mark_at, is_odd, order_of, precedes_nonspacing_mark, reverse_with_next, vtol_of}
 use Rattle.reorder.proofs.GroupLemmas.{mark_stands, reversed}
 use Rattle.reorder.proofs.InverseLemmas.{permuted_places, ArePlaces}
 use Rattle.reorder.proofs.OrderLemmas.{length-order, order_of_permutes, with_next_permutes}
@@ -65,39 +65,39 @@ module _ (classes : List BidiClass) (levels : List ℕ) (base n : ℕ) (is : IsG
   level_at : (k : ℕ) → k ≤ n → is_odd (get_or levels (base + k) 0) ≡ true
   level_at k h = ap is_odd (is.same k h) ∙ is.odd
 
-  -- each character of a group except the last precedes a mark of the group
-  precedes : (k : ℕ) → k < n → precedes_mark classes levels (base + k) ≡ true
+  -- each character of a group except the last precedes a nonspacing mark of the group
+  precedes : (k : ℕ) → k < n → precedes_nonspacing_mark classes levels (base + k) ≡ true
   precedes k h =
       let next : suc (base + k) ≡ base + (k + 1) = omega arith in
-      let mark : is_mark_at classes (suc (base + k)) ≡ true = ap (is_mark_at classes) next ∙ is.marks (k + 1) (omega arith) (omega (arith, h)) in
+      let mark : is_nonspacing_mark_at classes (suc (base + k)) ≡ true = ap (is_nonspacing_mark_at classes) next ∙ is.marks (k + 1) (omega arith) (omega (arith, h)) in
       let same : get_or levels (suc (base + k)) 0 ≡ get_or levels (base + k) 0 =
       ap (λ m. get_or levels m 0) next ∙ is.same (k + 1) (omega (arith, h)) ∙ sym (is.same k (omega (arith, h))) in
       let odd : Bool = is_odd (get_or levels (base + k) 0) in
       let equal : Bool = get_or levels (suc (base + k)) 0 == get_or levels (base + k) 0 in
-      and_from (is_mark_at classes (suc (base + k))) (odd && equal) mark
+      and_from (is_nonspacing_mark_at classes (suc (base + k))) (odd && equal) mark
       (and_from odd equal (level_at k (omega (arith, h))) (eq-eqb (get_or levels (suc (base + k)) 0) (get_or levels (base + k) 0) same))
 
   marks_based : (k : ℕ) → k < n → has_base classes levels (suc (base + k)) ≡ true
   marks_based zero h =
-      let plain : Bool = not (is_mark_at classes (base + 0)) in
+      let plain : Bool = not (is_nonspacing_mark_at classes (base + 0)) in
       let here : base + 0 ≡ base = omega arith in
-      and_from (precedes_mark classes levels (base + 0)) (plain || has_base classes levels (base + 0)) (precedes 0 h)
-      (or_left plain (has_base classes levels (base + 0)) (ap (λ m. not (is_mark_at classes m)) here ∙ ap not is.plain))
+      and_from (precedes_nonspacing_mark classes levels (base + 0)) (plain || has_base classes levels (base + 0)) (precedes 0 h)
+      (or_left plain (has_base classes levels (base + 0)) (ap (λ m. not (is_nonspacing_mark_at classes m)) here ∙ ap not is.plain))
   marks_based (suc k) h =
-      let plain : Bool = not (is_mark_at classes (base + suc k)) in
+      let plain : Bool = not (is_nonspacing_mark_at classes (base + suc k)) in
       let here : suc (base + k) ≡ base + suc k = omega arith in
       let before : has_base classes levels (base + suc k) ≡ true = ap (has_base classes levels) (sym here) ∙ marks_based k (omega (arith, h)) in
-      and_from (precedes_mark classes levels (base + suc k)) (plain || has_base classes levels (base + suc k)) (precedes (suc k) h)
+      and_from (precedes_nonspacing_mark classes levels (base + suc k)) (plain || has_base classes levels (base + suc k)) (precedes (suc k) h)
       (or_right plain (has_base classes levels (base + suc k)) before)
 
   -- the base of a group has no base itself
   base_free : (b : ℕ) → b ≡ base → has_base classes levels b ≡ false
   base_free zero e = refl
   base_free (suc i) e =
-      let plain : is_mark_at classes (suc i) ≡ false = ap (is_mark_at classes) e ∙ is.plain in
+      let plain : is_nonspacing_mark_at classes (suc i) ≡ false = ap (is_nonspacing_mark_at classes) e ∙ is.plain in
       let level : Bool = is_odd (get_or levels i 0) && (get_or levels (suc i) 0 == get_or levels i 0) in
-      and_left (precedes_mark classes levels i) (not (is_mark_at classes i) || has_base classes levels i)
-      (and_left (is_mark_at classes (suc i)) level plain)
+      and_left (precedes_nonspacing_mark classes levels i) (not (is_nonspacing_mark_at classes i) || has_base classes levels i)
+      (and_left (is_nonspacing_mark_at classes (suc i)) level plain)
 
   in_line : base + n < length levels
   in_line = elim (cases_lt (base + n) (length levels)) [
@@ -107,11 +107,12 @@ module _ (classes : List BidiClass) (levels : List ℕ) (base n : ℕ) (is : IsG
         absurd (both_ways (is_odd (get_or levels (base + n) 0)) (ap is_odd none) (level_at n (omega arith)))
   ]
 
-  -- the visual position of the last mark of the group, without L3
+  -- the visual position of the last nonspacing mark of the group, without L3
   start : ℕ
   start = (are.covers (base + n) in_line).0
 
-  -- the last mark of a group is followed by the other marks in reverse order, and then by the base
+  -- the last nonspacing mark of a group is followed by the other nonspacing marks in reverse order, and then by the
+  -- base
   follows : (k : ℕ) → k ≤ n → (start + k < length levels) × (get_or (order_of levels) (start + k) 0 ≡ base + (n - k))
   unfolding start
   follows zero h =
@@ -127,17 +128,17 @@ module _ (classes : List BidiClass) (levels : List ℕ) (base n : ℕ) (is : IsG
       let place : start + suc k ≡ suc (start + k) = omega arith in
       (omega (arith, beside.0), ap (λ m. get_or (order_of levels) m 0) place ∙ beside.1)
 
-  -- the character to the left of the last mark is not a mark with a base
+  -- the character to the left of the last nonspacing mark is not a nonspacing mark with a base
   front_free : (at z : ℕ) → suc at ≡ start → get_or (order_of levels) at 0 ≡ z → has_base classes levels z ≡ false
   front_free at zero e here = refl
   front_free at (suc i) e here =
-      let rest : Bool = not (is_mark_at classes i) || has_base classes levels i in
-      elim (cases_Bool (precedes_mark classes levels i)) [
-        | inr none ↦ and_left (precedes_mark classes levels i) rest none
+      let rest : Bool = not (is_nonspacing_mark_at classes i) || has_base classes levels i in
+      elim (cases_Bool (precedes_nonspacing_mark classes levels i)) [
+        | inr none ↦ and_left (precedes_nonspacing_mark classes levels i) rest none
         | inl some ↦
             let odd : Bool = is_odd (get_or levels i 0) in
             let same : Bool = get_or levels (suc i) 0 == get_or levels i 0 in
-            let mark = and_parts (is_mark_at classes (suc i)) (odd && same) some in
+            let mark = and_parts (is_nonspacing_mark_at classes (suc i)) (odd && same) some in
             let parts = and_parts odd same mark.1 in
             let level : get_or levels (suc i) 0 ≡ get_or levels i 0 = eqb-true (get_or levels (suc i) 0) (get_or levels i 0) parts.1 in
             let first = follows 0 (omega arith) in
@@ -146,7 +147,7 @@ module _ (classes : List BidiClass) (levels : List ℕ) (base n : ℕ) (is : IsG
             let last : i ≡ base + (n - 0) = sym beside.1 ∙ ap (λ m. get_or (order_of levels) m 0) place ∙ first.1 in
             let after : suc i ≡ base + n + 1 = omega (arith, last) in
             let end : i ≡ base + n = omega (arith, last) in
-            absurd (is.whole (ap (is_mark_at classes) (sym after) ∙ mark.0)
+            absurd (is.whole (ap (is_nonspacing_mark_at classes) (sym after) ∙ mark.0)
             (ap (λ m. get_or levels m 0) (sym after) ∙ level ∙ ap (λ m. get_or levels m 0) end ∙ is.same n (omega arith)))
       ]
 
@@ -220,16 +221,16 @@ first_stays test [] fails = refl
 first_stays test (x ∷ xs) fails =
     ap (λ (zs : List ℕ). get_or zs 0 0) (cond-false (test x) (reverse_with_next test (x ∷ []) xs) (x ∷ reverse_with_next test [] xs) fails)
 
--- if a character is in no group, the character to its left is not a mark with a base
+-- if a character is in no group, the character to its left is not a nonspacing mark with a base
 before_alone : (classes : List BidiClass) (levels : List ℕ) (k z : ℕ) → suc k < length levels → IsAlone classes levels (get_or (order_of levels) (suc k) 0)
     → get_or (order_of levels) k 0 ≡ z → has_base classes levels z ≡ false
 before_alone classes levels k zero within alone here = refl
 before_alone classes levels k (suc i) within alone here =
-    let rest : Bool = not (is_mark_at classes i) || has_base classes levels i in
+    let rest : Bool = not (is_nonspacing_mark_at classes i) || has_base classes levels i in
     elim (cases_Bool (has_base classes levels (suc i))) [
       | inr none ↦ none
       | inl some ↦
-          let beside = mark_stands classes levels k i (omega (arith, within)) here (and_parts (precedes_mark classes levels i) rest some).0 in
+          let beside = mark_stands classes levels k i (omega (arith, within)) here (and_parts (precedes_nonspacing_mark classes levels i) rest some).0 in
           absurd (both_ways (has_base classes levels (suc i)) (ap (λ m. has_base classes levels (suc m)) (sym beside.1) ∙ alone.no_marks) some)
     ]
 

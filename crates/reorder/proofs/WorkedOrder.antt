@@ -65,7 +65,7 @@ lowest = refl
 no_odd : lowest_odd (2 ∷ 4 ∷ []) ≡ None
 no_odd = refl
 
--- a mark is to the left of its base without L3, and to its right with L3
+-- a nonspacing mark is to the left of its base without L3, and to its right with L3
 point : vtol_of false (R ∷ NSM ∷ R ∷ []) (1 ∷ 1 ∷ 1 ∷ []) ≡ 2 ∷ 1 ∷ 0 ∷ []
 unfolding vtol_of order_of
 point = refl
@@ -82,7 +82,7 @@ points_read : vtol_of true (R ∷ NSM ∷ NSM ∷ []) (1 ∷ 1 ∷ 1 ∷ []) ≡
 unfolding vtol_of order_of
 points_read = refl
 
--- at an even level, a mark is to the right of its base, with or without L3
+-- at an even level, a nonspacing mark is to the right of its base, with or without L3
 digit_read : vtol_of true (R ∷ EN ∷ NSM ∷ []) (1 ∷ 2 ∷ 2 ∷ []) ≡ 1 ∷ 2 ∷ 0 ∷ []
 unfolding vtol_of order_of
 digit_read = refl
@@ -91,8 +91,8 @@ digit_places : ltov_of true (R ∷ EN ∷ NSM ∷ []) (1 ∷ 2 ∷ 2 ∷ []) ≡
 unfolding ltov_of vtol_of order_of
 digit_places = refl
 
--- marks without a base: at a different level from the character before, at the start of the line, or after
--- such a mark
+-- nonspacing marks without a base: at a different level from the character before, at the start of the line, or after
+-- such a nonspacing mark
 other_level : vtol_of true (R ∷ NSM ∷ NSM ∷ []) (1 ∷ 3 ∷ 3 ∷ []) ≡ 2 ∷ 1 ∷ 0 ∷ []
 unfolding vtol_of order_of
 other_level = refl

@@ -1,5 +1,5 @@
 -- The visual order that keeps the characters of each grapheme cluster at an odd level in logical order. L3
--- treats a character like a mark if it continues a cluster and has the level of the character before it.
+-- treats a character like a nonspacing mark if it continues a cluster and has the level of the character before it.
 use Rattle.std.specs.Prelude.{◌≡◌, ℕ, zero, suc, ◌+◌, ◌<◌, ◌≤◌, ◌==◌, Bool, true, false, ◌&&◌, not, ◌⊎◌, List, length, map, slice_index, slice_index_or, if◌then◌else◌}
 use Rattle.std.specs.List.{range_with_len}
 use Rattle.ucd.specs.declared.bidi_class.BidiClass.{BidiClass}
@@ -14,7 +14,7 @@ module _ (ends : List Bool) (levels : List ℕ) where
   is_joined zero = false
   is_joined (suc i) = not (slice_index_or ends i false) && (slice_index levels (suc i) == slice_index levels i)
 
-  -- the classes with which L3 keeps clusters in logical order: joined characters count as marks
+  -- the classes with which L3 keeps clusters in logical order: joined characters count as nonspacing marks
   abbrev pub joined_class : ℕ → BidiClass
   joined_class i = if is_joined i then NSM else ON
 

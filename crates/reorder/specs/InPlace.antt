@@ -13,7 +13,7 @@ reverse_flagged (flag ∷ flags) run (x ∷ items) = if flag then reverse_flagge
 abbrev pub flags_at : ℕ → List ℕ → List Bool
 flags_at level levels = map (nat_le level) levels
 
--- the `len` characters from `start` on are a chunk: a base and all its marks, or a character without a base
--- and without marks
+-- the `len` characters from `start` on are a chunk: a base and all its nonspacing marks, or a character without a base
+-- and without nonspacing marks
 abbrev pub IsChunk : List BidiClass → List ℕ → ℕ → ℕ → Type 0
 IsChunk classes levels start len = IsGroup classes levels start (len - 1) ⊎ ((len ≡ 1) × IsAlone classes levels start)

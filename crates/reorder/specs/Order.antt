@@ -4,7 +4,7 @@ use Rattle.std.specs.List.{list_any, position_or_len, range_with_len}
 use Rattle.ucd.specs.declared.bidi_class.BidiClass.{BidiClass}
 use Rattle.ucd.specs.Classes.{class_at}
 use Rattle.ucd.specs.Least.{least}
-use Rattle.ucd.specs.Classes.{is_mark}
+use Rattle.ucd.specs.Classes.{is_nonspacing_mark}
 
 -- reverses each maximal interval of items that pass a test; `run` is the current interval, reversed
 abbrev pub reverse_runs : (ℕ → Bool) → List ℕ → List ℕ → List ℕ
@@ -56,24 +56,24 @@ abbrev pub reverse_with_next : (ℕ → Bool) → List ℕ → List ℕ → List
 reverse_with_next test run [] = run
 reverse_with_next test run (i ∷ items) = if test i then reverse_with_next test (i ∷ run) items else i ∷ (run ++ reverse_with_next test [] items)
 
--- whether a character is a mark, according to its class in the tables
-abbrev pub is_mark_at : List BidiClass → ℕ → Bool
-is_mark_at classes i = is_mark (class_at classes i)
+-- whether a character is a nonspacing mark, according to its class in the tables
+abbrev pub is_nonspacing_mark_at : List BidiClass → ℕ → Bool
+is_nonspacing_mark_at classes i = is_nonspacing_mark (class_at classes i)
 
 -- the classes of a line, and the levels of its shown part
 module _ (classes : List BidiClass) (levels : List ℕ) where
-  -- whether the character after i is a mark, and both characters are at the same odd level
-  abbrev pub precedes_mark : ℕ → Bool
-  precedes_mark i = is_mark_at classes (suc i) && (is_odd (slice_index levels i) && (slice_index levels (suc i) == slice_index levels i))
+  -- whether the character after i is a nonspacing mark, and both characters are at the same odd level
+  abbrev pub precedes_nonspacing_mark : ℕ → Bool
+  precedes_nonspacing_mark i = is_nonspacing_mark_at classes (suc i) && (is_odd (slice_index levels i) && (slice_index levels (suc i) == slice_index levels i))
 
-  -- Whether a character is a mark with a base. A mark has a base if the character before it is at the same odd level,
-  -- and is either not a mark or a mark with a base.
+  -- Whether a character is a nonspacing mark with a base. A nonspacing mark has a base if the character before it is at
+  -- the same odd level, and is either not a nonspacing mark or a nonspacing mark with a base.
   abbrev pub has_base : ℕ → Bool
   has_base zero = false
-  has_base (suc i) = precedes_mark i && (not (is_mark_at classes i) || has_base i)
+  has_base (suc i) = precedes_nonspacing_mark i && (not (is_nonspacing_mark_at classes i) || has_base i)
 
--- The logical position of each visual position. L2 puts marks with a base to the left of the base, in reverse
--- logical order. With `reordernsm`, the marks are to the right of the base, in logical order (L3).
+-- The logical position of each visual position. L2 puts nonspacing marks with a base to the left of the base, in
+-- reverse logical order. With `reordernsm`, the nonspacing marks are to the right of the base, in logical order (L3).
 unfoldable pub vtol_of : Bool → List BidiClass → List ℕ → List ℕ
 vtol_of reordernsm classes levels = if reordernsm then reverse_with_next (has_base classes levels) [] (order_of levels) else order_of levels
 

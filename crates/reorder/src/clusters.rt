@@ -9,8 +9,8 @@ use ucd::{BidiClass, Classes};
 
 /// Classes for [`visual_order`](crate::visual_order) and [`visual_places`](crate::visual_places) with
 /// `reordernsm`. With these classes, L3 keeps each grapheme cluster in logical order, instead of each base
-/// and its marks. A character counts as a mark if it continues a cluster and has the same level as the
-/// character before it. All other characters count as bases.
+/// and its nonspacing marks. A character counts as a nonspacing mark if it continues a cluster and has the
+/// same level as the character before it. All other characters count as bases.
 #[derive(Clone, Copy)]
 pub struct ClusterClasses<'a> {
     /// For each character of the line, whether a cluster ends after it.

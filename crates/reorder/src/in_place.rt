@@ -3,9 +3,10 @@ ghost use Rattle.std.specs.Prelude.{◌≡◌, ◌<◌, ◌≤◌, ◌+◌, ◌=
 ghost use Rattle.std.specs.Prelude.{ℕ, [], length, map, true, false, nat_le, nat_lt, slice_index};
 ghost use Rattle.std.specs.Prelude.{IfSome, Some, None};
 ghost use Rattle.std.specs.List.{list_any, prefix_len};
-ghost use Rattle.ucd.specs.Classes.{is_mark};
+ghost use Rattle.ucd.specs.Classes.{is_nonspacing_mark};
 ghost use Rattle.reorder.specs.InPlace.{flags_at, reverse_flagged, IsChunk};
-ghost use Rattle.reorder.specs.Order.{has_base, highest, is_mark_at, is_odd, lowest_odd, order_of, vtol_of};
+ghost use Rattle.reorder.specs.Order.{has_base, highest, is_nonspacing_mark_at, is_odd, lowest_odd};
+ghost use Rattle.reorder.specs.Order.{order_of, vtol_of};
 
 use crate::order::{groups_stand_together, maps_are_inverse, others_stay};
 use ucd::{BidiClass, Classes};
@@ -19,14 +20,15 @@ pub fn reorder_in_place<C: Classes>(line: &C, levels: &[u8], reordernsm: bool, i
 {
     let (highest, lowest) = highest_and_lowest_odd(levels);
     if let Some(low) = lowest {
-        if reordernsm && has_mark(line) {
+        if reordernsm && has_nonspacing_mark(line) {
             reverse_groups(line, levels, items);
         }
         reverse_levels(levels, highest, low, items);
     }
 }
 
-// Reverses each group of a base at an odd level and its marks, so that L2 then puts the base first.
+// Reverses each group of a base at an odd level and its nonspacing marks, so that L2 then puts the base
+// first.
 fn reverse_groups<C: Classes>(line: &C, levels: &[u8], items: &mut [u32])
     requires line { length (C.all line.now) ≡ length levels.now }
     requires items { length items.old ≡ length levels.now }
@@ -44,8 +46,8 @@ fn reverse_groups<C: Classes>(line: &C, levels: &[u8], items: &mut [u32])
     }
 }
 
-// Returns the length of the group that begins at `start`: a base at an odd level and the marks after it at
-// the same level, or else a single character.
+// Returns the length of the group that begins at `start`: a base at an odd level and the nonspacing marks
+// after it at the same level, or else a single character.
 fn group_len<C: Classes>(line: &C, levels: &[u8], start: usize) -> usize
     requires line { length (C.all line.now) ≡ length levels.now }
     requires start { start < length levels.now }
@@ -55,38 +57,38 @@ fn group_len<C: Classes>(line: &C, levels: &[u8], start: usize) -> usize
     ensures next { has_base (C.all line.now) levels.now (start + result) ≡ false }
 {
     let level = levels[start];
-    if level % 2 == 0 || is_mark(line.class_at(start)) {
+    if level % 2 == 0 || is_nonspacing_mark(line.class_at(start)) {
         return 1;
     }
     let mut len = 1;
-    while is_mark_of(line, levels, start + len, level) {
+    while is_nonspacing_mark_of(line, levels, start + len, level) {
         len += 1;
     }
     len
 }
 
-// Returns whether the character at an index is a mark and has the given level.
-fn is_mark_of<C: Classes>(line: &C, levels: &[u8], place: usize, level: u8) -> bool
+// Returns whether the character at an index is a nonspacing mark and has the given level.
+fn is_nonspacing_mark_of<C: Classes>(line: &C, levels: &[u8], place: usize, level: u8) -> bool
     requires { length (C.all line.now) ≡ length levels.now }
     ensures { result ≡ (nat_lt place (length levels.now)
-        && (is_mark_at (C.all line.now) place && (slice_index levels.now place == level))) }
+        && (is_nonspacing_mark_at (C.all line.now) place && (slice_index levels.now place == level))) }
 {
-    place < levels.len() && is_mark(line.class_at(place)) && levels[place] == level
+    place < levels.len() && is_nonspacing_mark(line.class_at(place)) && levels[place] == level
 }
 
-fn is_mark(class: BidiClass) -> bool
-    ensures { result ≡ is_mark class }
+fn is_nonspacing_mark(class: BidiClass) -> bool
+    ensures { result ≡ is_nonspacing_mark class }
 {
     matches!(class, BidiClass::NSM)
 }
 
-// Returns whether the line contains a mark.
-fn has_mark<C: Classes>(line: &C) -> bool
-    ensures { result ≡ list_any is_mark (C.all line.now) }
+// Returns whether the line contains a nonspacing mark.
+fn has_nonspacing_mark<C: Classes>(line: &C) -> bool
+    ensures { result ≡ list_any is_nonspacing_mark (C.all line.now) }
 {
     let mut found = false;
     for k in 0..line.len() {
-        found |= is_mark(line.class_at(k));
+        found |= is_nonspacing_mark(line.class_at(k));
     }
     found
 }

@@ -10,8 +10,8 @@ ghost use Rattle.ucd.specs.declared.bidi_class.BidiClass.{BidiClass};
 ghost use Rattle.reorder.specs.Groups.{is_bound, AreBound, IsAlone, IsGroup, StandsTogether};
 ghost use Rattle.reorder.specs.LevelRuns.{level_run_len, run_at, run_shown, turned};
 ghost use Rattle.reorder.specs.Lanes.{AreAll, first_set, others};
-ghost use Rattle.reorder.specs.Order.{has_base, highest, is_at_least, is_mark_at, is_odd, lowest_odd};
-ghost use Rattle.reorder.specs.Order.{ltov_of, order_of, places, reverse_runs, reverse_with_next};
+ghost use Rattle.reorder.specs.Order.{has_base, highest, is_at_least, is_nonspacing_mark_at, is_odd};
+ghost use Rattle.reorder.specs.Order.{lowest_odd, ltov_of, order_of, places, reverse_runs, reverse_with_next};
 ghost use Rattle.reorder.specs.Order.{vtol_of, AreInverse};
 ghost use Rattle.reorder.specs.Runs.{run_count};
 
@@ -48,14 +48,15 @@ pub fn maps_are_inverse()
         (vtol_of reordernsm classes levels) (ltov_of reordernsm classes levels) }
 {}
 
-/// States, as a theorem, that a base at an odd level and its marks are adjacent in visual order. With L3,
-/// they are in logical order. Without L3, they are in reverse order. Costs nothing at run time.
+/// States, as a theorem, that a base at an odd level and its nonspacing marks are adjacent in visual order.
+/// With L3, they are in logical order. Without L3, they are in reverse order. Costs nothing at run time.
 pub fn groups_stand_together()
     ensures { (classes : List BidiClass) (levels : List ℕ) (base n : ℕ)
         → IsGroup classes levels base n → StandsTogether classes levels base n }
 {}
 
-/// States, as a theorem, that L3 moves only bases at odd levels and their marks. Costs nothing at run time.
+/// States, as a theorem, that L3 moves only bases at odd levels and their nonspacing marks. Costs nothing at
+/// run time.
 pub fn others_stay()
     ensures { (classes : List BidiClass) (levels : List ℕ) (k : ℕ) → k < length levels
         → IsAlone classes levels (slice_index (vtol_of false classes levels) k)
@@ -273,7 +274,7 @@ fn lay_run(start: u32, is_odd: bool, items: &mut [u32])
     }
 }
 
-// Reverses each group of a base at an odd level and the marks that L2 put to its left.
+// Reverses each group of a base at an odd level and the nonspacing marks that L2 put to its left.
 fn reverse_groups<C: Classes>(line: &C, levels: &[u8], vtol: &mut [u32])
     requires line { length levels.now ≤ length (C.all line.now) }
     requires vtol { vtol.old ≡ order_of levels.now }
@@ -286,7 +287,7 @@ fn reverse_groups<C: Classes>(line: &C, levels: &[u8], vtol: &mut [u32])
 }
 
 // Reverses the group at the front of a list, if there is one. Returns how many positions at the front are
-// then final. Before the call, item `result - 1` is a base, or a mark without a base.
+// then final. Before the call, item `result - 1` is a base, or a nonspacing mark without a base.
 fn reverse_group<C: Classes>(line: &C, levels: &[u8], items: &mut [u32]) -> usize
     requires line { length levels.now ≤ length (C.all line.now) }
     requires items { (start : ℕ) × (items.old ≡ drop start (order_of levels.now)) }
@@ -298,7 +299,7 @@ fn reverse_group<C: Classes>(line: &C, levels: &[u8], items: &mut [u32]) -> usiz
         ++ reverse_with_next (has_base (C.all line.now) levels.now) [] (drop result items.old) }
 {
     let len = bound_len(line, levels, items);
-    if !is_mark_at(line, items[len]) {
+    if !is_nonspacing_mark_at(line, items[len]) {
         items[..len + 1].reverse();
     }
     len + 1
@@ -318,8 +319,8 @@ fn bound_len<C: Classes>(line: &C, levels: &[u8], items: &[u32]) -> usize
     len
 }
 
-// Returns whether the character at `place` is a mark directly after the character at `next`, and both have
-// the same odd level.
+// Returns whether the character at `place` is a nonspacing mark directly after the character at `next`, and
+// both have the same odd level.
 fn is_bound<C: Classes>(line: &C, levels: &[u8], place: u32, next: u32) -> bool
     requires line { length levels.now ≤ length (C.all line.now) }
     requires places { (place < length levels.now) × (next < length levels.now) }
@@ -327,15 +328,15 @@ fn is_bound<C: Classes>(line: &C, levels: &[u8], place: u32, next: u32) -> bool
 {
     let (at, before) = (place as usize, next as usize);
     before + 1 == at
-        && is_mark_at(line, place)
+        && is_nonspacing_mark_at(line, place)
         && levels[before] % 2 == 1
         && levels[at] == levels[before]
 }
 
-// Returns whether a character is a mark, according to its class in the tables.
-fn is_mark_at<C: Classes>(line: &C, place: u32) -> bool
+// Returns whether a character is a nonspacing mark, according to its class in the tables.
+fn is_nonspacing_mark_at<C: Classes>(line: &C, place: u32) -> bool
     requires { place < length (C.all line.now) }
-    ensures { result ≡ is_mark_at (C.all line.now) place }
+    ensures { result ≡ is_nonspacing_mark_at (C.all line.now) place }
 {
     match line.class_at(place as usize) {
         BidiClass::NSM => true,

@@ -10,7 +10,7 @@ use Rattle.lines.specs.Columns.{columns_left}
 use Rattle.lines.specs.Layouts.{Layout, Rules}
 use Rattle.lines.specs.Visual.{Visual}
 use Rattle.reorder.specs.Order.{is_odd}
-use Rattle.session.specs.Carets.{caret_at, caret_in, caret_on, leading_edge, line_end, trailing_edge}
+use Rattle.session.specs.Carets.{caret_at, caret_in, caret_on, leading_edge, end_caret, trailing_edge}
 use Rattle.session.specs.Clusters.{cluster_at}
 use Rattle.session.specs.Edges.{caret_beside, caret_of, column_on, edge_caret_by}
 use Rattle.session.specs.Kept.{lines_in, text_of}
@@ -35,7 +35,7 @@ pub chained : {A B : Type 0} (f : A → Option B) (o : Option A) (y : B) → opt
 chained f None y is = absurd (none-some y is)
 chained f (Some x) y is = (x, refl, is)
 
-end_within : (n : ℕ) (line : Visual) → (line_end n line).column ≤ line.columns
+end_within : (n : ℕ) (line : Visual) → (end_caret n line).column ≤ line.columns
 end_within n line = elim (is_odd line.base) as (λ b. (if b then 0 else line.columns) ≤ line.columns) [ true ↦ omega arith | false ↦ omega arith ]
 
 -- a bound on the columns of two carets on a line also holds for a choice between the two
@@ -47,13 +47,13 @@ either false x y n width one other here there = (other, there refl)
 in_within : (line : Visual) (place : Place) → width_of line ≡ line.columns → ((caret_in line place).line ≡ place.line) × ((caret_in line place).column ≤ line.columns)
 in_within line place fits =
     let caret : Caret = record { line = place.line; column = leading_edge line place.offset; level = get_or line.levels place.offset 0 } in
-    either (nat_lt place.offset (length line.levels)) caret (line_end place.line line) place.line line.columns refl refl
+    either (nat_lt place.offset (length line.levels)) caret (end_caret place.line line) place.line line.columns refl refl
     (λ _. omega (arith, fits, left_most line (if is_odd (get_or line.levels place.offset 0) then get_or line.ltov place.offset 0 + 1 else get_or line.ltov place.offset 0))) (λ _. end_within place.line line)
 
 -- a caret on a side of a character is on the line of this character
 pub beside_line : (side : Side) (other : Visual) (place : Place) (from : ℕ) (cluster : Cluster) → (caret_beside side place.line other from place.offset cluster).line ≡ place.line
 beside_line side other place from cluster =
-    elim (nat_lt place.offset (length other.levels)) as (λ b. (if b then (record { line = place.line; column = column_on side other from cluster place.offset; level = get_or other.levels place.offset 0 }) else line_end place.line other).line ≡ place.line) [
+    elim (nat_lt place.offset (length other.levels)) as (λ b. (if b then (record { line = place.line; column = column_on side other from cluster place.offset; level = get_or other.levels place.offset 0 }) else end_caret place.line other).line ≡ place.line) [
       | true ↦ refl
       | false ↦ refl
     ]
@@ -75,7 +75,7 @@ module _ (rules : Rules) (kept : List Layout) (clusters : AllClusters kept) (car
       subst (λ (c : Caret). c.column ≤ line.columns) (ap (λ l. caret_in l place) (sym same) ∙ is) (in_within line place facts.columns).1
     where
       either_line : (other : Visual) (place : Place) → (caret_in other place).line ≡ place.line
-      either_line other place = elim (nat_lt place.offset (length other.levels)) as (λ b. (if b then (record { line = place.line; column = leading_edge other place.offset; level = get_or other.levels place.offset 0 }) else line_end place.line other).line ≡ place.line) [ true ↦ refl | false ↦ refl ]
+      either_line other place = elim (nat_lt place.offset (length other.levels)) as (λ b. (if b then (record { line = place.line; column = leading_edge other place.offset; level = get_or other.levels place.offset 0 }) else end_caret place.line other).line ≡ place.line) [ true ↦ refl | false ↦ refl ]
 
   -- ---- the edges of a character
   leading_edge_within : (k : ℕ) → leading_edge line k ≤ line.columns
@@ -123,7 +123,7 @@ module _ (rules : Rules) (kept : List Layout) (clusters : AllClusters kept) (car
   beside_within : (side : Side) (place : Place) (from : ℕ) (cluster : Cluster) → from + place.offset < cluster.end → (caret_beside side place.line line from place.offset cluster).column ≤ line.columns
   beside_within side place from cluster inside =
       let here : Caret = record { line = place.line; column = column_on side line from cluster place.offset; level = get_or line.levels place.offset 0 } in
-      (either (nat_lt place.offset (length line.levels)) here (line_end place.line line) place.line line.columns refl refl
+      (either (nat_lt place.offset (length line.levels)) here (end_caret place.line line) place.line line.columns refl refl
       (λ shown. on_side_within side from place.offset cluster (ltb-true place.offset (length line.levels) shown) inside)
       (λ _. end_within place.line line)).1
 

@@ -10,7 +10,7 @@ use Rattle.std.proofs.lemmas.Option.{get_or_from_slice_get, same_Some, slice_get
 use Rattle.bidi.specs.Cuts.{paragraphs}
 use Rattle.bidi.specs.Pieces.{ArePieces, ParagraphsArePieces}
 use Rattle.reorder.specs.Runs.{runs_of}
-use Rattle.ucd.specs.Classes.{is_mark}
+use Rattle.ucd.specs.Classes.{is_nonspacing_mark}
 use Rattle.ucd.specs.Tables.{class_of}
 use Rattle.lines.proofs.ClusterLemmas.{length-cluster_ends}
 use Rattle.lines.proofs.PageLemmas.{visual_at}
@@ -345,7 +345,7 @@ in_parts P (p ∷ pieces) all =
 marks_stay : (rules : Rules) (pieces : List (List ℕ)) → MarksStay rules (concat pieces) → All (MarksStay rules) pieces
 marks_stay rules pieces (inl stay) = λ k d within. inl stay
 marks_stay rules pieces (inr none) =
-    λ k d within. inr (none.0, in_parts (λ c. is_mark (class_of rules.tables c) ≡ true → columns_of c ≡ 0) pieces none.1 k d within)
+    λ k d within. inr (none.0, in_parts (λ c. is_nonspacing_mark (class_of rules.tables c) ≡ true → columns_of c ≡ 0) pieces none.1 k d within)
 
 -- what is known about a paragraph
 abbrev IsKnown : Rules → List ℕ → Type 0

@@ -72,12 +72,12 @@ refilled_to width old new (Err fault) m r other = record {
 
 -- whether an edit failed only because an allocation failed: it is not refused, and the text and the width are
 -- unchanged
-pub record HasStayed (reason : Option EditFault) (old new : SessionState) : Type 0 where
+pub record IsUnchanged (reason : Option EditFault) (old new : SessionState) : Type 0 where
   pub moved : HasMoved (held_at old) old new
   pub accepted : reason ≡ None
 
-has_stayed : (reason : Option EditFault) (bound : Engine → Engine → Type 0) (old new : SessionState) (fault : EditFault) → Stays reason bound old new fault → HasMoved (held_at old) old new
-has_stayed reason bound old new fault r = record {
+is_unchanged : (reason : Option EditFault) (bound : Engine → Engine → Type 0) (old new : SessionState) (fault : EditFault) → Stays reason bound old new fault → HasMoved (held_at old) old new
+is_unchanged reason bound old new fault r = record {
   held = held-by new (held_at old) (ap text_of r.kept) r.at_width r.advances;
   laid_out = r.laid_out;
   rules = r.rules;
@@ -85,13 +85,13 @@ has_stayed reason bound old new fault r = record {
 
 pub stays : (reason : Option EditFault) (bound : Engine → Engine
     → Type 0) (old new : SessionState) (result : Result Damage EditFault) → IfErr result (Stays reason bound old new)
-    → result ≡ Err NoMemory → HasStayed reason old new
+    → result ≡ Err NoMemory → IsUnchanged reason old new
 stays reason bound old new (Ok damage) r e = absurd (cc e)
 stays reason bound old new (Err OutOfRange) r e = absurd (cc e)
 stays reason bound old new (Err WidthOutOfRange) r e = absurd (cc e)
 stays reason bound old new (Err TextTooLong) r e = absurd (cc e)
 stays reason bound old new (Err ParagraphTooLong) r e = absurd (cc e)
-stays reason bound old new (Err NoMemory) r e = record { moved = has_stayed reason bound old new NoMemory r; accepted = r.answer }
+stays reason bound old new (Err NoMemory) r e = record { moved = is_unchanged reason bound old new NoMemory r; accepted = r.answer }
 
 -- How much work an edit did. A refused edit did no work. Any other edit analysed at most n characters, and
 -- filled and wrote lines with at most m characters.
@@ -237,10 +237,10 @@ next_works start old new edits n d edit within read run works =
 -- if edit n fails because memory ran out, the run stops at edit n
 pub HasRun-stops : (start old new : SessionState) (edits : List Edit) (n : ℕ) (d edit : Edit) → n < length edits → get_or edits n d ≡ edit → HasRun start edits n old
     → TakesMemory (rules_of old.engine) (held_at old) edit
-    → HasStayed (edit_refusal (rules_of old.engine) (held_at old) edit) old new
+    → IsUnchanged (edit_refusal (rules_of old.engine) (held_at old) edit) old new
     → Works (edit_refusal (rules_of old.engine) (held_at old) edit) (analysed_by (rules_of old.engine) (held_at old) edit) (filled_by (rules_of old.engine) (held_at old) edit) old.engine new.engine
     → StopsAt (rules_of start.engine) (held_at start) edits (held_at new) start.engine new.engine
-HasRun-stops start old new edits n d edit within read run takes stayed works =
+HasRun-stops start old new edits n d edit within read run takes unchanged works =
     let front = take n edits in
     let more : take (n + 1) edits ≡ front ++ edit ∷ [] = take_more edits n d within ∙ ap (λ e. front ++ e ∷ []) read in
     record {
@@ -248,9 +248,9 @@ HasRun-stops start old new edits n d edit within read run takes stayed works =
       edit = edit;
       after = drop (n + 1) edits;
       place = sym (take-append-drop (n + 1) edits) ∙ ap (λ xs. xs ++ drop (n + 1) edits) more ∙ append_assoc front (edit ∷ []) (drop (n + 1) edits);
-      held = stayed.moved.held ∙ run.held;
-      accepted = ap (λ held. edit_refusal (rules_of start.engine) held edit) stayed.moved.held ∙ ap (λ r. edit_refusal r (held_at old) edit) (sym run.rules) ∙ stayed.accepted;
-      takes = subst (λ held. TakesMemory (rules_of start.engine) held edit) (sym stayed.moved.held) takes;
+      held = unchanged.moved.held ∙ run.held;
+      accepted = ap (λ held. edit_refusal (rules_of start.engine) held edit) unchanged.moved.held ∙ ap (λ r. edit_refusal r (held_at old) edit) (sym run.rules) ∙ unchanged.accepted;
+      takes = subst (λ held. TakesMemory (rules_of start.engine) held edit) (sym unchanged.moved.held) takes;
       works = subst (λ before. WorksAtMost (rules_of start.engine) (held_at start) before start.engine new.engine) more (next_works start old new edits n d edit within read run works);
     }
 
@@ -272,8 +272,8 @@ HasRun-next start old new edits n d edit within read run step works =
       works = next_works start old new edits n d edit within read run works;
     }
 
-pub HasRun-rules : (start old new : SessionState) (edits : List Edit) (n : ℕ) (reason : Option EditFault) → HasRun start edits n old → HasStayed reason old new → SameRules start.engine new.engine
-HasRun-rules start old new edits n reason run stayed = stayed.moved.rules ∙ run.rules
+pub HasRun-rules : (start old new : SessionState) (edits : List Edit) (n : ℕ) (reason : Option EditFault) → HasRun start edits n old → IsUnchanged reason old new → SameRules start.engine new.engine
+HasRun-rules start old new edits n reason run unchanged = unchanged.moved.rules ∙ run.rules
 
 -- the test for `NoMemory` succeeds if and only if the result is `Err(NoMemory)`
 module _ (same_damage : Damage → Damage → Bool) (same_fault : EditFault → EditFault → Bool) where

@@ -8,7 +8,7 @@ use Rattle.lines.specs.Layouts.{Layout, Rules}
 use Rattle.lines.specs.Ordered.{IsOrdered}
 use Rattle.lines.specs.Visual.{Visual}
 use Rattle.reorder.specs.Order.{is_odd}
-use Rattle.session.specs.Carets.{caret_at, leading_edge, line_end, trailing_edge}
+use Rattle.session.specs.Carets.{caret_at, leading_edge, end_caret, trailing_edge}
 use Rattle.session.specs.Clusters.{cluster_at}
 use Rattle.session.specs.Edges.{after, before, caret_beside, caret_of, column_on, edge_caret_at, edge_caret_by, left_edge, right_edge}
 use Rattle.session.specs.Kept.{lines_in, text_of}
@@ -74,7 +74,7 @@ module _ (rules : Rules) (kept : List Layout) (n : ℕ) (line : Visual) (start :
         drawn =
             ap (option_and_then (λ l. option_map (caret_beside side place.line l from place.offset) (cluster_at kept (start + k)))) there
             ∙ ap (option_map (caret_beside side place.line line from place.offset)) is
-            ∙ ap (λ (c : Caret). Some c) (cond-true (nat_lt place.offset (length line.levels)) caret (line_end place.line line) (lt-ltb place.offset (length line.levels) inner));
+            ∙ ap (λ (c : Caret). Some c) (cond-true (nat_lt place.offset (length line.levels)) caret (end_caret place.line line) (lt-ltb place.offset (length line.levels) inner));
         line = placed.line;
         at = ap₂ (λ s o. column_on side line s cluster o) begins placed.offset;
       }

@@ -10,8 +10,8 @@ use Rattle.session.specs.declared.carets.Caret.{Caret}
 use Rattle.session.specs.declared.places.Place.{Place}
 
 -- the caret at the end of a line's shown part, in the base direction
-abbrev pub line_end : ℕ → Visual → Caret
-line_end n line = record { line = n; column = if is_odd line.base then 0 else line.columns; level = line.base }
+abbrev pub end_caret : ℕ → Visual → Caret
+end_caret n line = record { line = n; column = if is_odd line.base then 0 else line.columns; level = line.base }
 
 -- the column of a character's leading edge: the left edge if its level is even, the right one if it is odd
 abbrev pub leading_edge : Visual → ℕ → ℕ
@@ -28,7 +28,7 @@ abbrev pub caret_in : Visual → Place → Caret
 caret_in line place =
     if nat_lt place.offset (length line.levels)
     then record { line = place.line; column = leading_edge line place.offset; level = slice_index line.levels place.offset }
-    else line_end place.line line
+    else end_caret place.line line
 
 -- the caret at a place in a line; in column 0 if the line does not exist yet because a new paragraph would
 -- start there

@@ -5,7 +5,7 @@ use Rattle.lines.specs.Layouts.{Layout, Rules}
 use Rattle.lines.specs.Separators.{separator_len}
 use Rattle.lines.specs.Visual.{Visual}
 use Rattle.reorder.specs.Order.{is_odd}
-use Rattle.session.specs.Carets.{caret_at, line_end}
+use Rattle.session.specs.Carets.{caret_at, end_caret}
 use Rattle.session.specs.Clusters.{cluster_at}
 use Rattle.session.specs.Kept.{lines_in, text_of}
 use Rattle.session.specs.Places.{is_closed, line_starts, place_in}
@@ -76,7 +76,7 @@ abbrev pub caret_beside : Side → ℕ → Visual → ℕ → ℕ → Cluster �
 caret_beside side n line start k cluster =
     if nat_lt k (length line.levels)
     then record { line = n; column = column_on side line start cluster k; level = slice_index line.levels k }
-    else line_end n line
+    else end_caret n line
 
 module _ (kept : List Layout) where
   -- line n, and the position at which it starts; `None` past the last line

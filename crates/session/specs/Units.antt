@@ -36,7 +36,7 @@ module _ (line : Visual) where
       (nat_le first k && nat_lt k end) && takes_columns k
 
   -- The column of the leading end of a unit. At an even level, this is the left edge of its first character.
-  -- At an odd level, it is the right edge of its rightmost character, which may be a mark that takes columns
+  -- At an odd level, it is the right edge of its rightmost character, which may be a nonspacing mark that takes columns
   -- and comes after its base (L3).
   abbrev pub leading_of : ℕ → ℕ → ℕ → ℕ
   leading_of level first end =

@@ -1,7 +1,7 @@
 //! Where a caret before a character, or at the end of the text, is drawn.
 ghost use Rattle.std.specs.Prelude.{◌≡◌, ◌^◌, ◌<◌, slice_index};
 ghost use Rattle.reorder.specs.Order.{is_odd};
-ghost use Rattle.session.specs.Carets.{caret_in, leading_edge, line_end, trailing_edge};
+ghost use Rattle.session.specs.Carets.{caret_in, leading_edge, end_caret, trailing_edge};
 
 use crate::places::Place;
 use lines::VisualLine;
@@ -18,8 +18,8 @@ pub struct Caret {
 }
 
 /// Returns the caret at the end of a line, in the base direction of its paragraph.
-pub fn line_end(line: &VisualLine<'_>, n: usize) -> Caret
-    ensures caret { result ≡ line_end n line.now }
+pub fn end_caret(line: &VisualLine<'_>, n: usize) -> Caret
+    ensures caret { result ≡ end_caret n line.now }
     ensures fits { result.column < 2 ^ 63 }
 {
     let level = line.base();
@@ -101,6 +101,6 @@ pub fn caret_in(line: &VisualLine<'_>, place: Place) -> Caret
             column: leading_edge(line, k),
             level: *level,
         },
-        None => line_end(line, place.line),
+        None => end_caret(line, place.line),
     }
 }

@@ -11,7 +11,7 @@ ghost use Rattle.session.specs.Kept.{lines_in};
 ghost use Rattle.session.specs.Places.{place_in};
 ghost use Rattle.session.specs.Sessions.{text_at};
 
-use crate::carets::{Caret, is_odd, line_end};
+use crate::carets::{Caret, end_caret, is_odd};
 use crate::clusters::Cluster;
 use crate::hits::logical;
 use crate::kept::Kept;
@@ -145,7 +145,7 @@ fn caret_beside(
             column: column_on(side, line, start, cluster, k),
             level: *level,
         },
-        None => line_end(line, n),
+        None => end_caret(line, n),
     }
 }
 
@@ -336,7 +336,7 @@ impl<S: ParagraphStore<Kept>> Session<S> {
     }
 
     // Returns the position at which line `n` ends.
-    fn line_end(&self, n: usize) -> usize
+    fn end_of_line(&self, n: usize) -> usize
         requires { n < length (lines_in self.now.kept) }
         ensures { result ≡ end_of self.now.kept n }
     {
@@ -431,7 +431,7 @@ impl<S: ParagraphStore<Kept>> Session<S> {
         let (line, start) = self.line_at(n)?;
         Some(LineEdges {
             first: before(start),
-            last: self.last_edge(start, self.line_end(n), line.levels().len()),
+            last: self.last_edge(start, self.end_of_line(n), line.levels().len()),
         })
     }
 }

@@ -52,9 +52,10 @@ pub fn measured_edits_are_drawn_at_once()
 /// boundary in its direction on the same line, if there is one. So repeated steps reach every boundary in
 /// their direction. From a boundary, a step and a step back return to the same column. The edge at a column
 /// is at the last boundary up to that column. All of this holds at any width, under any rules with
-/// `reorder_clusters`, and under any rules that leave marks in place or give them no columns. Without
-/// `reordernsm`, marks stay in place. In the tables of Unicode 15.0, all nonspacing marks except U+2D7F and
-/// U+1171E take no columns; this can be read from the tables, and is not proved. Costs nothing at run time.
+/// `reorder_clusters`, and under any rules that leave nonspacing marks in place or give them no columns.
+/// Without `reordernsm`, nonspacing marks stay in place. In the tables of Unicode 15.0, all nonspacing marks
+/// except U+2D7F and U+1171E take no columns; this can be read from the tables, and is not proved. Costs
+/// nothing at run time.
 pub fn steps_lead_to_boundaries()
     ensures { (rules : Rules) (width : ℕ) (text : List ℕ)
         → (rules.options.reorder_clusters ≡ true) ⊎ MarksStay rules text

@@ -25,7 +25,7 @@ pub enum RangeFault {
 
 // Writes `count` lines of a paragraph, starting at line `from`. `before` is the number of bytes already
 // written, and the returned byte count includes it.
-fn write_part<W: Sink>(
+fn write_in_paragraph<W: Sink>(
     laid: &Laid,
     from: usize,
     count: usize,
@@ -91,7 +91,7 @@ pub fn write_lines<S: ParagraphStore<Kept>, W: Sink>(
             unreachable!()
         };
         let part = left.min(kept.lines() - from);
-        written = write_part(kept.laid(), from, part, writer, written, width, print)?;
+        written = write_in_paragraph(kept.laid(), from, part, writer, written, width, print)?;
         left -= part;
         from = 0;
     }

@@ -2,7 +2,7 @@
 use Rattle.std.specs.Prelude.{◌≡◌, ℕ, ◌+◌, ◌<◌, List, ◌∷◌, ◌++◌, length, take, sum_by}
 use Rattle.store.specs.Sums.{measure, AreSums}
 use Rattle.store.specs.declared.found.Found.{Found}
-use Rattle.store.specs.declared.found.Place.{Place}
+use Rattle.store.specs.declared.found.Position.{Position}
 use Rattle.store.specs.declared.measured.Measured.{Ghosts}
 use Rattle.store.specs.declared.sums.Unit.{Unit as Counted}
 
@@ -31,27 +31,27 @@ pub record CountsBefore {P : Type 0} (bytes utf16 : P → ℕ) (items : List P) 
   pub bytes_before : found.bytes_before ≡ sum_by bytes (take found.index items)
   pub utf16_before : found.utf16_before ≡ sum_by utf16 (take found.index items)
 
--- converts a place to a search result
-abbrev pub found_at : Place → Found
-found_at place = record {
-  index = place.index;
-  rest = place.rest;
-  chars_before = place.before.chars;
-  lines_before = place.before.lines;
-  bytes_before = place.before.bytes;
-  utf16_before = place.before.utf16;
-  visits = place.visits;
+-- converts a position to a search result
+abbrev pub found_at : Position → Found
+found_at position = record {
+  index = position.index;
+  rest = position.rest;
+  chars_before = position.before.chars;
+  lines_before = position.before.lines;
+  bytes_before = position.before.bytes;
+  utf16_before = position.before.utf16;
+  visits = position.visits;
 }
 
--- whether the place is that of the character, line, byte or code unit with number n, and `place.before` holds
+-- whether the position is that of the character, line, byte or code unit with number n, and `position.before` holds
 -- the sums of the items before the found one
-pub record IsPlace {P : Type 0} (G : Ghosts P) (unit : Counted) (items : List P) (n : ℕ) (place : Place) : Type 0 where
-  pub finds : Finds (measure G unit) G.chars G.lines items n (found_at place)
-  pub sums : AreSums G finds.before place.before
+pub record IsPosition {P : Type 0} (G : Ghosts P) (unit : Counted) (items : List P) (n : ℕ) (position : Position) : Type 0 where
+  pub finds : Finds (measure G unit) G.chars G.lines items n (found_at position)
+  pub sums : AreSums G finds.before position.before
 
--- whether the place is the start of the item at an index, and `place.before` holds the sums of the items
+-- whether the position is the start of the item at an index, and `position.before` holds the sums of the items
 -- before it
-pub record IsItemPlace {P : Type 0} (G : Ghosts P) (items : List P) (index : ℕ) (place : Place) : Type 0 where
-  pub index_is : place.index ≡ index
-  pub rest : place.rest ≡ 0
-  pub sums : AreSums G (take index items) place.before
+pub record IsItemPosition {P : Type 0} (G : Ghosts P) (items : List P) (index : ℕ) (position : Position) : Type 0 where
+  pub index_is : position.index ≡ index
+  pub rest : position.rest ≡ 0
+  pub sums : AreSums G (take index items) position.before

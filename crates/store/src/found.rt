@@ -26,15 +26,15 @@ pub struct Found {
 /// A search result in the form in which a store computes it. `before` holds the sums of the items before the
 /// found item.
 #[derive(Clone, Copy)]
-pub(crate) struct Place {
+pub(crate) struct Position {
     pub(crate) index: usize,
     pub(crate) rest: usize,
     pub(crate) before: Sums,
     pub(crate) visits: usize,
 }
 
-impl Place {
-    /// Converts the place to a search result.
+impl Position {
+    /// Converts the position to a search result.
     pub(crate) fn found(self) -> Found
         ensures { result ≡ found_at self }
     {

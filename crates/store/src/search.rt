@@ -3,11 +3,11 @@ ghost use Rattle.std.specs.Prelude.{◌≡◌, ℕ, ◌+◌, ◌^◌, ◌<◌, �
 ghost use Rattle.std.specs.Prelude.{length, map, sum_by, option_map, slice_get, vec_capacity};
 ghost use Rattle.std.specs.List.{AllZip};
 ghost use Rattle.store.specs.Exchanging.{pairwise, raised, total_cost};
-ghost use Rattle.store.specs.Finding.{IsItemPlace, IsPlace};
+ghost use Rattle.store.specs.Finding.{IsItemPosition, IsPosition};
 ghost use Rattle.store.specs.Sums.{measure};
 ghost use Rattle.store.specs.Trees.{height, in_order, IsBalanced, nodes_to};
 
-use crate::found::Place;
+use crate::found::Position;
 use crate::measured::{Exchanger, Measured};
 use crate::subtree::{Node, Subtree};
 use crate::sums::{Sums, Unit};
@@ -45,9 +45,9 @@ impl<P: Measured> Subtree<P> {
     }
 
     /// Finds the item that contains the character, line, byte or code unit with number `n`.
-    pub(crate) fn find(&self, unit: Unit, n: usize) -> Place
+    pub(crate) fn find(&self, unit: Unit, n: usize) -> Position
         requires { n < sum_by (measure P.Measured unit) (in_order self.now) }
-        ensures found { IsPlace P.Measured unit (in_order self.now) n result }
+        ensures found { IsPosition P.Measured unit (in_order self.now) n result }
         ensures visits { result.visits ≡ nodes_to self.now result.index }
     {
         let Some(node) = &self.root else {
@@ -58,36 +58,36 @@ impl<P: Measured> Subtree<P> {
         let (_height, _count, _sums) = (self.height(), self.count(), self.sums());
         let left = node.left.total(unit);
         if n < left {
-            let place = node.left.find(unit, n);
-            return Place {
-                visits: place.visits + 1,
-                ..place
+            let position = node.left.find(unit, n);
+            return Position {
+                visits: position.visits + 1,
+                ..position
             };
         }
         let (index, before) = (node.left.count(), node.left.sums());
         let rest = n - left;
         let size = unit.size_of(&node.item);
         if rest < size {
-            return Place {
+            return Position {
                 index,
                 rest,
                 before,
                 visits: 1,
             };
         }
-        let place = node.right.find(unit, rest - size);
-        Place {
-            index: index + 1 + place.index,
-            rest: place.rest,
-            before: before.plus(Sums::of(&node.item)).plus(place.before),
-            visits: place.visits + 1,
+        let position = node.right.find(unit, rest - size);
+        Position {
+            index: index + 1 + position.index,
+            rest: position.rest,
+            before: before.plus(Sums::of(&node.item)).plus(position.before),
+            visits: position.visits + 1,
         }
     }
 
     /// Finds the item at an index.
-    pub(crate) fn find_item(&self, index: usize) -> Place
+    pub(crate) fn find_item(&self, index: usize) -> Position
         requires { index < length (in_order self.now) }
-        ensures found { IsItemPlace P.Measured (in_order self.now) index result }
+        ensures found { IsItemPosition P.Measured (in_order self.now) index result }
         ensures visits { result.visits ≡ nodes_to self.now index }
     {
         let Some(node) = &self.root else {
@@ -98,26 +98,26 @@ impl<P: Measured> Subtree<P> {
         let (_height, _sums) = (self.height(), self.sums());
         let (count, before) = (node.left.count(), node.left.sums());
         if index < count {
-            let place = node.left.find_item(index);
-            return Place {
-                visits: place.visits + 1,
-                ..place
+            let position = node.left.find_item(index);
+            return Position {
+                visits: position.visits + 1,
+                ..position
             };
         }
         if index == count {
-            return Place {
+            return Position {
                 index,
                 rest: 0,
                 before,
                 visits: 1,
             };
         }
-        let place = node.right.find_item(index - count - 1);
-        Place {
+        let position = node.right.find_item(index - count - 1);
+        Position {
             index,
             rest: 0,
-            before: before.plus(Sums::of(&node.item)).plus(place.before),
-            visits: place.visits + 1,
+            before: before.plus(Sums::of(&node.item)).plus(position.before),
+            visits: position.visits + 1,
         }
     }
 

@@ -5,10 +5,10 @@ ghost use Rattle.std.specs.Prelude.{slice_get, slice_range, option_map, sum_by, 
 ghost use Rattle.std.specs.Prelude.{IfOk, IfErr, OnOk, OnErr};
 ghost use Rattle.std.specs.List.{splice, AllZip};
 ghost use Rattle.store.specs.Exchanging.{pairwise, raised, total_cost};
-ghost use Rattle.store.specs.Finding.{CountsBefore, Finds, FindsItem, IsItemPlace, IsPlace};
+ghost use Rattle.store.specs.Finding.{CountsBefore, Finds, FindsItem, IsItemPosition, IsPosition};
 ghost use Rattle.store.specs.Sums.{measure, AreSums, SumsFit};
 
-use crate::found::{Found, Place};
+use crate::found::{Found, Position};
 use crate::measured::{Exchanger, Measured};
 use crate::paragraph_store::ParagraphStore;
 use crate::sums::{Sums, Unit};
@@ -58,10 +58,10 @@ fn sums<P: Measured>(items: &[P]) -> Sums
 }
 
 // Finds the item that contains the character, line, byte or code unit with number `n`, by scanning the items.
-fn find<P: Measured>(items: &[P], unit: Unit, n: usize) -> Place
+fn find<P: Measured>(items: &[P], unit: Unit, n: usize) -> Position
     requires within { n < sum_by (measure P.Measured unit) items.now }
     requires fit { SumsFit P.Measured items.now }
-    ensures found { IsPlace P.Measured unit items.now n result }
+    ensures found { IsPosition P.Measured unit items.now n result }
     ensures visits { result.visits ≡ result.index + 1 }
 {
     let mut rest = n;
@@ -69,7 +69,7 @@ fn find<P: Measured>(items: &[P], unit: Unit, n: usize) -> Place
     for (index, item) in items.iter().enumerate() {
         let size = unit.size_of(item);
         if rest < size {
-            return Place {
+            return Position {
                 index,
                 rest,
                 before,
@@ -83,14 +83,14 @@ fn find<P: Measured>(items: &[P], unit: Unit, n: usize) -> Place
 }
 
 // Finds the item at an index, by adding up the sizes of the items before it.
-fn find_item<P: Measured>(items: &[P], index: usize) -> Place
+fn find_item<P: Measured>(items: &[P], index: usize) -> Position
     requires within { index < length items.now }
     requires fit { SumsFit P.Measured items.now }
-    ensures found { IsItemPlace P.Measured items.now index result }
+    ensures found { IsItemPosition P.Measured items.now index result }
     ensures visits { result.visits ≡ index }
 {
     let (front, _) = items.split_at(index);
-    Place {
+    Position {
         index,
         rest: 0,
         before: sums(front),

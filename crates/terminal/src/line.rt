@@ -209,7 +209,7 @@ fn push_blanks(
 }
 
 // Returns how many spaces pad a line on its left.
-fn padding(line: &VisualLine<'_>, width: u32, print: &Print) -> usize
+fn padding_len(line: &VisualLine<'_>, width: u32, print: &Print) -> usize
     requires { is_measured line.now ≡ false }
     ensures { replicate result 32 ≡ padding width print.now line.now }
 {
@@ -238,7 +238,7 @@ fn push_shown(
         (numbered part.now.text.now.links.items part.now.text.now.runs.items number)
         (shown_line form.now.width form.now.print line.now (styles_in part.now))) }
 {
-    let spaces = padding(line, form.width, &form.print);
+    let spaces = padding_len(line, form.width, &form.print);
     let padded = push_blanks(part.text, spaces, before, out)?;
     push_chars(line, part, &form.print, padded, out)
 }

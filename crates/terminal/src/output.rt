@@ -52,7 +52,7 @@ impl Drop for Output {
 
 /// The rest of a text after the blocks that have ended.
 #[derive(Clone, Copy)]
-pub(crate) struct Left {
+pub(crate) struct Remainder {
     /// The index at which the rest begins.
     pub(crate) start: usize,
     /// The number of characters at the start of the rest that end no block, whatever follows the text.
@@ -121,7 +121,7 @@ impl Output {
         text: &[char],
         scanned: usize,
         passed: Passed,
-    ) -> Result<Left, AllocError>
+    ) -> Result<Remainder, AllocError>
         requires within { scanned ≤ length text.now }
         requires none { AreNoEnds (cut_by (rules_of engine.old)) scanned text.now }
         requires passed { HasPassed passed (drop (scanned + 1) text.now) }
@@ -142,7 +142,7 @@ impl Output {
                     return Ok(left_open(form, start, k, passed, rest.len()));
                 }
                 FirstEnd::At(k) if is_too_long(form, k) => {
-                    return Ok(Left {
+                    return Ok(Remainder {
                         start,
                         scanned: 0,
                         passed: Passed::nothing(),
@@ -151,7 +151,7 @@ impl Output {
                 }
                 // Like the command `fribidi`, does not write the last paragraph before invalid UTF-8.
                 FirstEnd::At(k) if is_held(form, k, rest.len()) => {
-                    return Ok(Left {
+                    return Ok(Remainder {
                         start,
                         scanned: k - 1,
                         passed: Passed::nothing(),
@@ -267,7 +267,7 @@ fn is_too_long(form: &Form, len: usize) -> bool
 // Describes the rest of a text, which begins at `start`, has `len` characters, and contains no known end of a
 // block. If the form is strict, the rest is too long in two cases: its first block is over the limit, or the
 // rest exceeds twice the limit.
-fn left_open(form: &Form, start: usize, scanned: usize, passed: Passed, len: usize) -> Left
+fn left_open(form: &Form, start: usize, scanned: usize, passed: Passed, len: usize) -> Remainder
     ensures start { result.start ≡ start }
     ensures scanned { result.scanned ≡ scanned }
     ensures passed { result.passed ≡ passed }
@@ -276,7 +276,7 @@ fn left_open(form: &Form, start: usize, scanned: usize, passed: Passed, len: usi
     let is_long = form.strict
         && len > PARAGRAPH_LIMIT
         && (scanned >= PARAGRAPH_LIMIT || len > 2 * PARAGRAPH_LIMIT);
-    Left {
+    Remainder {
         start,
         scanned,
         passed,

@@ -144,7 +144,7 @@ fn unpaired(case: BracketCase) -> BracketStep {
     }
 }
 
-// What N0 does with a mark that gets its type from the bracket at an index.
+// What N0 does with a nonspacing mark that gets its type from the bracket at an index.
 fn mark_of(bracket: usize) -> BracketStep {
     BracketStep {
         case: None,

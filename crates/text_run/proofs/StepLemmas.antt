@@ -28,7 +28,7 @@ use Rattle.text_run.specs.Pages.{prints_some}
 use Rattle.text_run.specs.Streaming.{Ends, FindsFault, Finishes, Gathers, IsAt, IsBeginning, IsFront, IsFaultAhead, IsOpen, IsRead, Stands, StopsAfter, StopsWriting, Writes, last_lines}
 use Rattle.text_run.proofs.CountLemmas.{at_most_more, at_most_none, at_most_printed, printed_as, prints_more}
 use Rattle.text_run.proofs.Fronts.{front_join, front_more, front_none}
-use Rattle.text_run.proofs.LeftLemmas.{front_some, last_pars, last_within, left_by, not_none, pars_some}
+use Rattle.text_run.proofs.RemainderLemmas.{front_some, last_pars, last_within, left_by, not_none, pars_some}
 use Rattle.text_run.proofs.StopLemmas.{append_end, encoded_len, is_all, last_len, not_all, not_bad, one_par, some_bad, stopped_in}
 use Rattle.text_run.proofs.StreamLemmas.{Consumes-append, Consumes-kept, IsSent, Stops, at_fault, at_long, at_memory, at_write, at_written, ends_write, front_is, gave_all, gone_on, had_all, pars_are, pars_sent, sent_ahead, sent_within, within_more, written_whole, Wrote-append}
 use Rattle.stream.proofs.Utf8Lemmas.{bad_stays, is_bad-after, utf8_front, utf8_valid_len-after}

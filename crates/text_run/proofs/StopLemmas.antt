@@ -18,7 +18,7 @@ use Rattle.lines.specs.declared.engine.Engine.{Engine}
 use Rattle.lines.specs.declared.printing.print.Print.{Print}
 use Rattle.text_run.specs.TextRun.{front_paragraphs, HasRead, HasStopped}
 use Rattle.text_run.specs.Streaming.{IsOpen}
-use Rattle.text_run.proofs.LeftLemmas.{last_pars, not_none}
+use Rattle.text_run.proofs.RemainderLemmas.{last_pars, not_none}
 use Rattle.text_run.proofs.StreamLemmas.{FailedLast-after, Took-append}
 use Rattle.stream.proofs.Utf8Lemmas.{utf8_error_len-nil}
 use lib.Utf8.{encode}

@@ -18,37 +18,37 @@ use Rattle.text_run.specs.declared.faults.RunFault.TheVariants as f
 
 module _ (rules : Rules) (print : Print) (command : Command) (old new : Held) where
   -- whether the text, the width and the reply after a command agree with the edit's result
-  record Told (edit : Result Damage EditFault) : Type 0 where
+  record Answered (edit : Result Damage EditFault) : Type 0 where
     pub held : new ≡ after_command rules old command
     pub text : answer_to rules print old command ≡ answer_text edit
 
-  refused : (reason : EditFault) → command_refusal rules old command ≡ Some reason → new ≡ old → Told (Err reason)
+  refused : (reason : EditFault) → command_refusal rules old command ≡ Some reason → new ≡ old → Answered (Err reason)
   refused reason is stays = record {
     held = stays ∙ sym (ap (λ (o : Option EditFault). if is_none o then executed old command else old) is);
     text = ap (λ (o : Option EditFault). answer_by o (executed_text rules print old command)) is;
   }
 
-  told : (edit : Result Damage EditFault) → Edited rules command old new edit → lacks_memory edit ≡ false → Told edit
-  told (Ok damage) (accepted, made, text) room = record {
+  answered : (edit : Result Damage EditFault) → Edited rules command old new edit → lacks_memory edit ≡ false → Answered edit
+  answered (Ok damage) (accepted, made, text) room = record {
     held = made ∙ sym (ap (λ (o : Option EditFault). if is_none o then executed old command else old) accepted);
     text = ap (λ (o : Option EditFault). answer_by o (executed_text rules print old command)) accepted ∙ text print;
   }
-  told (Err e.NoMemory) replaced room = absurd (true≢false room)
-  told (Err e.OutOfRange) (is, stays) room = refused e.OutOfRange is stays
-  told (Err e.WidthOutOfRange) (is, stays) room = refused e.WidthOutOfRange is stays
-  told (Err e.TextTooLong) (is, stays) room = refused e.TextTooLong is stays
-  told (Err e.ParagraphTooLong) (is, stays) room = refused e.ParagraphTooLong is stays
+  answered (Err e.NoMemory) replaced room = absurd (true≢false room)
+  answered (Err e.OutOfRange) (is, stays) room = refused e.OutOfRange is stays
+  answered (Err e.WidthOutOfRange) (is, stays) room = refused e.WidthOutOfRange is stays
+  answered (Err e.TextTooLong) (is, stays) room = refused e.TextTooLong is stays
+  answered (Err e.ParagraphTooLong) (is, stays) room = refused e.ParagraphTooLong is stays
 
   module _ (edit : Result Damage EditFault) (replaced : Edited rules command old new edit) (room : lacks_memory edit ≡ false) (written : ℕ) (writer_old writer_new : Device) where
     pub executes : (r : Result ℕ RunFault) → IfOk r (PassedOn (answer_text edit) written writer_old writer_new) → IfOk r (Executes rules print command written old new writer_old writer_new)
     executes (Ok n) passed =
-        let t = told edit replaced room in
+        let t = answered edit replaced room in
         record { held = t.held; wrote = subst (λ text. PassedOn text written writer_old writer_new n) (sym t.text) passed }
     executes (Err fault) passed = tt
 
     stops_at : (fault : RunFault) → Stops (answer_text edit) written writer_old writer_new fault → ExecutesNot rules print command written old new writer_old writer_new fault
     stops_at (f.Write n) stopped =
-        let t = told edit replaced room in (t.held, subst (λ text. StoppedIn text written writer_old writer_new n) (sym t.text) stopped)
+        let t = answered edit replaced room in (t.held, subst (λ text. StoppedIn text written writer_old writer_new n) (sym t.text) stopped)
     stops_at f.Read stopped = absurd stopped
     stops_at (f.NotUtf8 n) stopped = absurd stopped
     stops_at f.ParagraphTooLong stopped = absurd stopped

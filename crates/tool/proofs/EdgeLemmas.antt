@@ -14,7 +14,7 @@ use Rattle.lines.specs.Clusters.{after}
 use Rattle.lines.specs.Columns.{columns_between, columns_left, width_at, widths}
 use Rattle.lines.specs.Layouts.{Layout, Rules, cut_by, layout_of, visuals, with_advances}
 use Rattle.lines.specs.Visual.{Visual}
-use Rattle.session.specs.Carets.{caret_at, leading_edge, line_end, trailing_edge}
+use Rattle.session.specs.Carets.{caret_at, leading_edge, end_caret, trailing_edge}
 use Rattle.session.specs.Clusters.{cluster_at}
 use Rattle.session.specs.Edges.{caret_beside, caret_of, column_on, edge_caret_by}
 use Rattle.session.specs.Kept.{back_advances, front_advances, layouts_from, layouts_of, lines_in, text_of}
@@ -100,7 +100,7 @@ module _ (line : Visual) where
             | false ↦ omega (arith, trailing)
           ]
 
-      end-le : (n : ℕ) → (line_end n line).column ≤ whole + line.columns
+      end-le : (n : ℕ) → (end_caret n line).column ≤ whole + line.columns
       end-le n = elim (is_odd line.base) as (λ b. (if b then 0 else line.columns) ≤ whole + line.columns) [ true ↦ omega arith | false ↦ omega arith ]
 
       on-le : (side : Side) (k : ℕ) → column_on side line start cluster k ≤ whole + line.columns
@@ -109,14 +109,14 @@ module _ (line : Visual) where
 
       beside-le : (side : Side) (n k : ℕ) → (caret_beside side n line start k cluster).column ≤ whole + line.columns
       beside-le side n k =
-          elim (nat_lt k (length line.levels)) as (λ b. (if b then record { line = n; column = column_on side line start cluster k; level = get_or line.levels k 0 } else line_end n line).column ≤ whole + line.columns) [
+          elim (nat_lt k (length line.levels)) as (λ b. (if b then record { line = n; column = column_on side line start cluster k; level = get_or line.levels k 0 } else end_caret n line).column ≤ whole + line.columns) [
             | true ↦ on-le side k
             | false ↦ end-le n
           ]
 
   beside-line : (side : Side) (n start k : ℕ) (cluster : Cluster) → (caret_beside side n line start k cluster).line ≡ n
   beside-line side n start k cluster =
-      elim (nat_lt k (length line.levels)) as (λ b. (if b then record { line = n; column = column_on side line start cluster k; level = get_or line.levels k 0 } else line_end n line).line ≡ n) [
+      elim (nat_lt k (length line.levels)) as (λ b. (if b then record { line = n; column = column_on side line start cluster k; level = get_or line.levels k 0 } else end_caret n line).line ≡ n) [
         | true ↦ refl
         | false ↦ refl
       ]

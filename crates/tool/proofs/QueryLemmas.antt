@@ -16,7 +16,7 @@ use Rattle.session.specs.declared.printing.RangeFault.TheVariants.{Write}
 use Rattle.lines.specs.declared.printing.bytes.WriteFault.{WriteFault}
 use Rattle.text_run.specs.declared.faults.RunFault.{RunFault}
 use Rattle.text_run.specs.declared.faults.RunFault.TheVariants as f
-use Rattle.tool.specs.Queries.{lines_text, out_of_range, part_text, told}
+use Rattle.tool.specs.Queries.{lines_text, out_of_range, part_text, numbers_answer}
 use Rattle.tool.specs.Reading.{Stops}
 
 -- if a write failed within the first part of a reply, it failed within the reply
@@ -50,16 +50,16 @@ same_stop (Ok x) fault Q is holds = tt
 same_stop (Err y) fault Q is holds = rw is holds
 
 pub lines_within : (print : Print) (width : ℕ) (kept : List Layout) (first count : ℕ) → first + count ≤ length (lines_in kept)
-    → lines_text print width kept first count ≡ told (count ∷ []) ++ flat_map (line_bytes width print) (slice_range (lines_in kept) first (first + count))
+    → lines_text print width kept first count ≡ numbers_answer (count ∷ []) ++ flat_map (line_bytes width print) (slice_range (lines_in kept) first (first + count))
 lines_within print width kept first count within = cond-false (nat_lt (length (lines_in kept)) (first + count)) _ _ (le-ltb (length (lines_in kept)) (first + count) within)
 
-pub part_within : (kept : List Layout) (pos count len : ℕ) → Some len ≡ utf8_len kept pos count → part_text kept pos count ≡ told (len ∷ []) ++ utf8_part kept pos count ++ codes "\n"
+pub part_within : (kept : List Layout) (pos count len : ℕ) → Some len ≡ utf8_len kept pos count → part_text kept pos count ≡ numbers_answer (len ∷ []) ++ utf8_part kept pos count ++ codes "\n"
 part_within kept pos count len is = go (nat_lt (length (text_of kept)) (pos + count)) is
   where
     go : (b : Bool) → Some len ≡ (if b then None else Some (length (utf8_part kept pos count)))
-        → (if b then out_of_range else told (length (utf8_part kept pos count) ∷ []) ++ utf8_part kept pos count ++ codes "\n") ≡ told (len ∷ []) ++ utf8_part kept pos count ++ codes "\n"
+        → (if b then out_of_range else numbers_answer (length (utf8_part kept pos count) ∷ []) ++ utf8_part kept pos count ++ codes "\n") ≡ numbers_answer (len ∷ []) ++ utf8_part kept pos count ++ codes "\n"
     go true none = cc
-    go false some = ap (λ o. told (unwrap_or o 0 ∷ []) ++ utf8_part kept pos count ++ codes "\n") (sym some)
+    go false some = ap (λ o. numbers_answer (unwrap_or o 0 ∷ []) ++ utf8_part kept pos count ++ codes "\n") (sym some)
 
 -- if printing fails with `Write`, `stopped` holds for the number of bytes written
 pub of_sink : (size first count : ℕ) (untouched : Type 0) (stopped : ℕ → Type 0) (fault : RangeFault) (sink : WriteFault) → fault ≡ Write sink

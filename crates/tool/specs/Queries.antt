@@ -46,25 +46,25 @@ abbrev pub listed : List ℕ → List ℕ
 listed numbers = flat_map (λ n. codes " " ++ decimal n) numbers
 
 -- the reply that consists of `=`, each of these numbers after a space, and a newline
-abbrev pub told : List ℕ → List ℕ
-told numbers = codes "=" ++ listed numbers ++ codes "\n"
+abbrev pub numbers_answer : List ℕ → List ℕ
+numbers_answer numbers = codes "=" ++ listed numbers ++ codes "\n"
 
 -- the reply to a query for a position, a line or a range past the end
 abbrev pub out_of_range : List ℕ
 out_of_range = codes "! range\n"
 
-abbrev pub told_of : Option (List ℕ) → List ℕ
-told_of (Some numbers) = told numbers
-told_of None = out_of_range
+abbrev pub optional_answer : Option (List ℕ) → List ℕ
+optional_answer (Some numbers) = numbers_answer numbers
+optional_answer None = out_of_range
 
 -- the start of a reply that lists items: `=` and the number of items
-abbrev pub told_count : ℕ → List ℕ
-told_count count = codes "= " ++ decimal count
+abbrev pub count_answer : ℕ → List ℕ
+count_answer count = codes "= " ++ decimal count
 
--- A reply that lists items: it begins with `told_count`, and ends with a newline. Between these are the numbers of each
--- item, with a space before each number.
-abbrev pub told_each : {A : Type 0} → (A → List ℕ) → List A → List ℕ
-told_each numbers items = told_count (length items) ++ flat_map (λ item. listed (numbers item)) items ++ codes "\n"
+-- A reply that lists items: it begins with `count_answer`, and ends with a newline. Between these are the numbers of
+-- each item, with a space before each number.
+abbrev pub list_answer : {A : Type 0} → (A → List ℕ) → List A → List ℕ
+list_answer numbers items = count_answer (length items) ++ flat_map (λ item. listed (numbers item)) items ++ codes "\n"
 
 -- a side as a word; an edge as its position and its side, with a space before each
 abbrev pub side_text : Side → List ℕ
@@ -75,15 +75,15 @@ abbrev pub edge_text : Edge → List ℕ
 edge_text edge = codes " " ++ decimal edge.pos ++ codes " " ++ side_text edge.side
 
 -- the reply that consists of one edge, and the reply that consists of two edges
-abbrev pub told_edge : Edge → List ℕ
-told_edge edge = codes "=" ++ edge_text edge ++ codes "\n"
+abbrev pub edge_answer : Edge → List ℕ
+edge_answer edge = codes "=" ++ edge_text edge ++ codes "\n"
 
-abbrev pub told_edges : Edge → Edge → List ℕ
-told_edges first last = codes "=" ++ edge_text first ++ edge_text last ++ codes "\n"
+abbrev pub edges_answer : Edge → Edge → List ℕ
+edges_answer first last = codes "=" ++ edge_text first ++ edge_text last ++ codes "\n"
 
 -- the reply to `step` if the edge is at the end of its line in that direction
-abbrev pub told_end : List ℕ
-told_end = codes "= end\n"
+abbrev pub end_answer : List ℕ
+end_answer = codes "= end\n"
 
 -- the edge and the direction that the arguments of a query denote
 abbrev pub edge_of : ℕ → Bool → Edge
@@ -129,7 +129,7 @@ module _ (print : Print) (width : ℕ) (kept : List Layout) where
   caret_numbers caret = caret.line ∷ (left_of print width (slice_get (lines_in kept) caret.line) caret.level + caret.column) ∷ caret.level ∷ []
 
   abbrev pub caret_text : Rules → ℕ → List ℕ
-  caret_text rules pos = told_of (option_map caret_numbers (caret_at rules kept pos))
+  caret_text rules pos = optional_answer (option_map caret_numbers (caret_at rules kept pos))
 
   -- the hit at a column of the screen, and the reply to `hit`: the position of the hit, and 1 if the hit is
   -- trailing, else 0
@@ -142,27 +142,27 @@ module _ (print : Print) (width : ℕ) (kept : List Layout) where
   screen_hit n column = screen_hit_on n column (slice_get (lines_in kept) n)
 
   abbrev pub hit_text : ℕ → ℕ → List ℕ
-  hit_text n column = told_of (option_map (λ hit. hit.pos ∷ (if hit.trailing then 1 else 0) ∷ []) (screen_hit n column))
+  hit_text n column = optional_answer (option_map (λ hit. hit.pos ∷ (if hit.trailing then 1 else 0) ∷ []) (screen_hit n column))
 
   -- the reply to `edge`: a line, a column of the screen and a level
   abbrev pub edge_caret_text : Rules → Edge → List ℕ
-  edge_caret_text rules edge = told_of (option_map caret_numbers (edge_caret_at rules kept edge))
+  edge_caret_text rules edge = optional_answer (option_map caret_numbers (edge_caret_at rules kept edge))
 
   -- The reply to `at`: the edge at a column of the screen. The columns of the padding count as the first column of the shown part.
   abbrev pub edge_reply : Option Edge → List ℕ
-  edge_reply (Some edge) = told_edge edge
+  edge_reply (Some edge) = edge_answer edge
   edge_reply None = out_of_range
 
-  abbrev pub left_on : Option Visual → ℕ
-  left_on (Some line) = screen_left print width line
-  left_on None = 0
+  abbrev pub left_columns : Option Visual → ℕ
+  left_columns (Some line) = screen_left print width line
+  left_columns None = 0
 
   abbrev pub at_text : Rules → ℕ → ℕ → List ℕ
-  at_text rules n column = edge_reply (edge_at rules kept n (column - left_on (slice_get (lines_in kept) n)))
+  at_text rules n column = edge_reply (edge_at rules kept n (column - left_columns (slice_get (lines_in kept) n)))
 
   -- the reply to `spans`: the columns of the screen that the characters from position `start` up to `end` cover in line n
   abbrev pub spans_on : ℕ → ℕ → Option ℕ → Option Visual → List ℕ
-  spans_on start end (Some at) (Some line) = told_each (span_numbers (screen_left print width line)) (spans_of line (start - at) (end - at))
+  spans_on start end (Some at) (Some line) = list_answer (span_numbers (screen_left print width line)) (spans_of line (start - at) (end - at))
   spans_on start end at line = out_of_range
 
   abbrev pub spans_text : ℕ → ℕ → ℕ → List ℕ
@@ -172,7 +172,7 @@ module _ (print : Print) (width : ℕ) (kept : List Layout) where
   abbrev pub lines_text : ℕ → ℕ → List ℕ
   lines_text first count =
       if nat_lt (length (lines_in kept)) (first + count) then out_of_range
-      else told (count ∷ []) ++ flat_map (line_bytes width print) (slice_range (lines_in kept) first (first + count))
+      else numbers_answer (count ∷ []) ++ flat_map (line_bytes width print) (slice_range (lines_in kept) first (first + count))
 
 -- the reply to `why`: the reasons for a character's level and break mark
 abbrev pub why_by : Option CharReasons → List ℕ
@@ -184,23 +184,23 @@ module _ (kept : List Layout) where
   why_text rules pos = why_by (reasons_at rules kept pos)
 
   abbrev pub cluster_text : ℕ → List ℕ
-  cluster_text pos = told_of (option_map (λ cluster. cluster.start ∷ cluster.end ∷ []) (cluster_at kept pos))
+  cluster_text pos = optional_answer (option_map (λ cluster. cluster.start ∷ cluster.end ∷ []) (cluster_at kept pos))
 
   abbrev pub word_text : ℕ → List ℕ
-  word_text pos = told_of (option_map (λ word. word.start ∷ word.end ∷ (if word.has_letter then 1 else 0) ∷ []) (word_at kept pos))
+  word_text pos = optional_answer (option_map (λ word. word.start ∷ word.end ∷ (if word.has_letter then 1 else 0) ∷ []) (word_at kept pos))
 
   -- the reply to `step`: the next edge, or `end` if the edge is at the end of the line in that direction
   abbrev pub step_by : Option Caret → Option Edge → List ℕ
   step_by None next = out_of_range
-  step_by (Some caret) (Some next) = told_edge next
-  step_by (Some caret) None = told_end
+  step_by (Some caret) (Some next) = edge_answer next
+  step_by (Some caret) None = end_answer
 
   abbrev pub step_text : Rules → Edge → Direction → List ℕ
   step_text rules edge direction = step_by (edge_caret_at rules kept edge) (step_at rules kept edge direction)
 
   -- the reply to `ends`: the first and the last edge of a line
   abbrev pub ends_by : Option LineEdges → List ℕ
-  ends_by (Some edges) = told_edges edges.first edges.last
+  ends_by (Some edges) = edges_answer edges.first edges.last
   ends_by None = out_of_range
 
   abbrev pub ends_text : Rules → ℕ → List ℕ
@@ -208,7 +208,7 @@ module _ (kept : List Layout) where
 
   -- the reply to `runs`: the level runs of a line, with positions counted from the start of the line
   abbrev pub runs_by : Option Visual → List ℕ
-  runs_by (Some line) = told_each run_numbers (runs_of line.levels)
+  runs_by (Some line) = list_answer run_numbers (runs_of line.levels)
   runs_by None = out_of_range
 
   abbrev pub runs_text : ℕ → List ℕ
@@ -216,28 +216,28 @@ module _ (kept : List Layout) where
 
   -- the reply to `clusters`: where each cluster ends, counted from the start of the line
   abbrev pub clusters_by : Option (List ℕ) → List ℕ
-  clusters_by (Some ends) = told_each (λ end. end ∷ []) ends
+  clusters_by (Some ends) = list_answer (λ end. end ∷ []) ends
   clusters_by None = out_of_range
 
   abbrev pub clusters_text : ℕ → List ℕ
   clusters_text n = clusters_by (line_clusters kept n)
 
   abbrev pub size_text : List ℕ
-  size_text = told (length (text_of kept) ∷ length (lines_in kept) ∷ length kept ∷ [])
+  size_text = numbers_answer (length (text_of kept) ∷ length (lines_in kept) ∷ length kept ∷ [])
 
   -- the replies to `byte` and `utf16`: an offset; and to `frombyte` and `fromutf16`: a position, and how many
   -- units of its character precede the offset
   abbrev pub offset_text : Encoding → ℕ → List ℕ
-  offset_text encoding pos = told_of (option_map (λ offset. offset ∷ []) (offset_of encoding (text_of kept) pos))
+  offset_text encoding pos = optional_answer (option_map (λ offset. offset ∷ []) (offset_of encoding (text_of kept) pos))
 
   abbrev pub position_text : Encoding → ℕ → List ℕ
-  position_text encoding offset = told_of (option_map (λ place. place.0 ∷ place.1 ∷ []) (position_of encoding (text_of kept) offset))
+  position_text encoding offset = optional_answer (option_map (λ place. place.0 ∷ place.1 ∷ []) (position_of encoding (text_of kept) offset))
 
   -- the reply to `text`: the number of bytes that follow, the characters, and a newline
   abbrev pub part_text : ℕ → ℕ → List ℕ
   part_text pos count =
       if nat_lt (length (text_of kept)) (pos + count) then out_of_range
-      else told (length (utf8_part kept pos count) ∷ []) ++ utf8_part kept pos count ++ codes "\n"
+      else numbers_answer (length (utf8_part kept pos count) ∷ []) ++ utf8_part kept pos count ++ codes "\n"
 
 abbrev pub query_text : Rules → Print → ℕ → List Layout → Query → List ℕ
 query_text rules print width kept (ask.Lines first count) = lines_text print width kept first count

@@ -5,9 +5,9 @@ ghost use Rattle.std.specs.Fmt.{decimal};
 ghost use Rattle.arrayvec.specs.ArrayVec.{array_vec_len};
 ghost use Rattle.lines.specs.Writing.{PassedOn};
 ghost use Rattle.session.specs.Kept.{text_of};
-ghost use Rattle.tool.specs.Queries.{cluster_text, told_of, word_text};
-ghost use Rattle.tool.specs.Queries.{edge_text, listed, out_of_range, side_text, told, told_count};
-ghost use Rattle.tool.specs.Queries.{told_edge, told_edges, told_end};
+ghost use Rattle.tool.specs.Queries.{cluster_text, optional_answer, word_text};
+ghost use Rattle.tool.specs.Queries.{edge_text, listed, out_of_range, side_text, numbers_answer};
+ghost use Rattle.tool.specs.Queries.{count_answer, edge_answer, edges_answer, end_answer};
 ghost use Rattle.tool.specs.Reading.{answer_text, Stops};
 ghost use Rattle.tool.specs.ScriptRun.{damage_text, refusal_text};
 
@@ -36,9 +36,9 @@ pub fn answer_of(edit: &Result<Damage, EditFault>) -> Answer
 }
 
 /// Returns a reply that consists of these numbers on one line. There must be at most three.
-pub fn told(numbers: &[usize]) -> Answer
+pub fn numbers_answer(numbers: &[usize]) -> Answer
     requires { length numbers.now ≤ 3 }
-    ensures { result.items ≡ told numbers.now }
+    ensures { result.items ≡ numbers_answer numbers.now }
 {
     let mut answer = Answer::new();
     push(&mut answer, b"=");
@@ -64,8 +64,8 @@ pub fn listed(numbers: &[usize]) -> Answer
 }
 
 /// Returns the start of a reply that lists items: `=` and the number of items.
-pub fn told_count(count: usize) -> Answer
-    ensures { result.items ≡ told_count count }
+pub fn count_answer(count: usize) -> Answer
+    ensures { result.items ≡ count_answer count }
 {
     let mut answer = Answer::new();
     push(&mut answer, b"= ");
@@ -74,8 +74,8 @@ pub fn told_count(count: usize) -> Answer
 }
 
 /// Returns the reply that consists of an edge.
-pub fn told_edge(edge: Edge) -> Answer
-    ensures { result.items ≡ told_edge edge }
+pub fn edge_answer(edge: Edge) -> Answer
+    ensures { result.items ≡ edge_answer edge }
 {
     let mut answer = Answer::new();
     push(&mut answer, b"=");
@@ -85,8 +85,8 @@ pub fn told_edge(edge: Edge) -> Answer
 }
 
 /// Returns the reply to `ends`, which consists of the first and the last edge of a line.
-pub fn told_edges(first: Edge, last: Edge) -> Answer
-    ensures { result.items ≡ told_edges first last }
+pub fn edges_answer(first: Edge, last: Edge) -> Answer
+    ensures { result.items ≡ edges_answer first last }
 {
     let mut answer = Answer::new();
     push(&mut answer, b"=");
@@ -97,8 +97,8 @@ pub fn told_edges(first: Edge, last: Edge) -> Answer
 }
 
 /// Returns the reply to `step` if the edge is at the end of its line in that direction.
-pub fn told_end() -> Answer
-    ensures { result.items ≡ told_end }
+pub fn end_answer() -> Answer
+    ensures { result.items ≡ end_answer }
 {
     let mut answer = Answer::new();
     push(&mut answer, b"= end\n");
@@ -122,7 +122,7 @@ pub fn cluster_answer<S: ParagraphStore<Kept>>(
     ensures memory { OnErr result (pos < length (text_of session.now.kept)) }
 {
     match session.cluster(pos)? {
-        Some(cluster) => Ok(told(&[cluster.start, cluster.end])),
+        Some(cluster) => Ok(numbers_answer(&[cluster.start, cluster.end])),
         None => Ok(out_of_range()),
     }
 }
@@ -137,17 +137,17 @@ pub fn word_answer<S: ParagraphStore<Kept>>(
     ensures memory { OnErr result (pos < length (text_of session.now.kept)) }
 {
     match session.word(pos)? {
-        Some(word) => Ok(told(&[word.start, word.end, usize::from(word.has_letter)])),
+        Some(word) => Ok(numbers_answer(&[word.start, word.end, usize::from(word.has_letter)])),
         None => Ok(out_of_range()),
     }
 }
 
 /// Returns the reply to `byte` or `utf16`: the offset, or `out_of_range` if there is none.
 pub fn offset_answer(offset: Option<usize>) -> Answer
-    ensures { result.items ≡ told_of (option_map (λ offset. offset ∷ []) offset) }
+    ensures { result.items ≡ optional_answer (option_map (λ offset. offset ∷ []) offset) }
 {
     match offset {
-        Some(offset) => told(&[offset]),
+        Some(offset) => numbers_answer(&[offset]),
         None => out_of_range(),
     }
 }
@@ -155,10 +155,10 @@ pub fn offset_answer(offset: Option<usize>) -> Answer
 /// Returns the reply to `frombyte` or `fromutf16`: the position, and how many units of the character at that
 /// position precede the offset, or `out_of_range` if there is no position.
 pub fn position_answer(found: Option<(usize, usize)>) -> Answer
-    ensures { result.items ≡ told_of (option_map (λ place. place.0 ∷ place.1 ∷ []) found) }
+    ensures { result.items ≡ optional_answer (option_map (λ place. place.0 ∷ place.1 ∷ []) found) }
 {
     match found {
-        Some((pos, rest)) => told(&[pos, rest]),
+        Some((pos, rest)) => numbers_answer(&[pos, rest]),
         None => out_of_range(),
     }
 }

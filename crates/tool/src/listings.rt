@@ -4,10 +4,10 @@ ghost use Rattle.std.specs.List.{flat_map};
 ghost use Rattle.lines.specs.Spans.{spans_of};
 ghost use Rattle.lines.specs.Writing.{PassedOn};
 ghost use Rattle.reorder.specs.Runs.{runs_of};
-ghost use Rattle.tool.specs.Queries.{listed, run_numbers, span_numbers, told_each};
+ghost use Rattle.tool.specs.Queries.{listed, run_numbers, span_numbers, list_answer};
 ghost use Rattle.tool.specs.Reading.{Stops};
 
-use crate::answers::{listed, told_count, write_bytes};
+use crate::answers::{count_answer, listed, write_bytes};
 use device::Sink;
 use lines::VisualLine;
 use text_run::RunFault;
@@ -25,14 +25,14 @@ pub fn write_spans<W: Sink>(
 ) -> Result<u64, RunFault>
     requires written { written ≤ (W.state writer.old).passed }
     requires left { left < 2 ^ 32 }
-    ensures ok { IfOk result (PassedOn (told_each (span_numbers left) (spans_of line.now start end))
+    ensures ok { IfOk result (PassedOn (list_answer (span_numbers left) (spans_of line.now start end))
         written (W.state writer.old) (W.state writer.new)) }
-    ensures err { IfErr result (Stops (told_each (span_numbers left) (spans_of line.now start end))
+    ensures err { IfErr result (Stops (list_answer (span_numbers left) (spans_of line.now start end))
         written (W.state writer.old) (W.state writer.new)) }
     ensures counted { IfOk result (λ n. n ≤ (W.state writer.new).passed) }
 {
-    let told = write_bytes(writer, written, &told_count(span_count(line, start, end)))?;
-    let all = write_each_span(writer, told, left, line, start, end)?;
+    let total = write_bytes(writer, written, &count_answer(span_count(line, start, end)))?;
+    let all = write_each_span(writer, total, left, line, start, end)?;
     write_bytes(writer, all, b"\n")
 }
 
@@ -85,14 +85,14 @@ pub fn write_runs<W: Sink>(
     line: &VisualLine<'_>,
 ) -> Result<u64, RunFault>
     requires { written ≤ (W.state writer.old).passed }
-    ensures ok { IfOk result (PassedOn (told_each run_numbers (runs_of line.now.levels)) written
+    ensures ok { IfOk result (PassedOn (list_answer run_numbers (runs_of line.now.levels)) written
         (W.state writer.old) (W.state writer.new)) }
-    ensures err { IfErr result (Stops (told_each run_numbers (runs_of line.now.levels)) written
+    ensures err { IfErr result (Stops (list_answer run_numbers (runs_of line.now.levels)) written
         (W.state writer.old) (W.state writer.new)) }
     ensures counted { IfOk result (λ n. n ≤ (W.state writer.new).passed) }
 {
-    let told = write_bytes(writer, written, &told_count(run_count(line)))?;
-    let all = write_each_run(writer, told, line)?;
+    let total = write_bytes(writer, written, &count_answer(run_count(line)))?;
+    let all = write_each_run(writer, total, line)?;
     write_bytes(writer, all, b"\n")
 }
 
@@ -144,14 +144,14 @@ fn write_each_run<W: Sink>(
 /// written.
 pub fn write_ends<W: Sink>(writer: &mut W, written: u64, ends: &[usize]) -> Result<u64, RunFault>
     requires { written ≤ (W.state writer.old).passed }
-    ensures ok { IfOk result (PassedOn (told_each (λ end. end ∷ []) ends.now) written
+    ensures ok { IfOk result (PassedOn (list_answer (λ end. end ∷ []) ends.now) written
         (W.state writer.old) (W.state writer.new)) }
-    ensures err { IfErr result (Stops (told_each (λ end. end ∷ []) ends.now) written
+    ensures err { IfErr result (Stops (list_answer (λ end. end ∷ []) ends.now) written
         (W.state writer.old) (W.state writer.new)) }
     ensures counted { IfOk result (λ n. n ≤ (W.state writer.new).passed) }
 {
-    let told = write_bytes(writer, written, &told_count(ends.len()))?;
-    let all = write_each_end(writer, told, ends)?;
+    let total = write_bytes(writer, written, &count_answer(ends.len()))?;
+    let all = write_each_end(writer, total, ends)?;
     write_bytes(writer, all, b"\n")
 }
 

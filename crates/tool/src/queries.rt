@@ -10,14 +10,14 @@ ghost use Rattle.session.specs.Reasons.{reasons_at};
 ghost use Rattle.tool.specs.Reasons.{reasons_text};
 ghost use Rattle.tool.specs.Queries.{at_text, caret_text, clusters_text, edge_caret_text};
 ghost use Rattle.tool.specs.Queries.{ends_text, hit_text, lines_text, part_text, query_text, runs_text};
-ghost use Rattle.tool.specs.Queries.{size_text, spans_text, step_text, told, why_text};
-ghost use Rattle.tool.specs.Queries.{caret_numbers, direction_of, edge_of, empty_left, is_odd_at, left_on};
-ghost use Rattle.tool.specs.Queries.{screen_hit, screen_left, AnswersNot};
+ghost use Rattle.tool.specs.Queries.{size_text, spans_text, step_text, numbers_answer, why_text};
+ghost use Rattle.tool.specs.Queries.{caret_numbers, direction_of, edge_of, empty_left, is_odd_at};
+ghost use Rattle.tool.specs.Queries.{left_columns, screen_hit, screen_left, AnswersNot};
 ghost use Rattle.tool.specs.Reading.{Stops};
 
 use crate::answers::{
-    Answer, cluster_answer, offset_answer, out_of_range, position_answer, told, told_edge,
-    told_edges, told_end, word_answer, write_bytes,
+    Answer, cluster_answer, edge_answer, edges_answer, end_answer, numbers_answer, offset_answer,
+    out_of_range, position_answer, word_answer, write_bytes,
 };
 use crate::listings::{write_ends, write_runs, write_spans};
 use crate::reasons::reasons_line;
@@ -54,15 +54,20 @@ fn empty_left(level: u8, width: u32, print: &Print) -> usize
 }
 
 // Returns the reply that consists of a caret's line, screen column and level.
-fn told_caret<S: ParagraphStore<Kept>>(session: &Session<S>, print: &Print, caret: Caret) -> Answer
+fn answer_of_caret<S: ParagraphStore<Kept>>(
+    session: &Session<S>,
+    print: &Print,
+    caret: Caret,
+) -> Answer
     requires { caret.column < 2 ^ 64 - 2 ^ 32 }
-    ensures { result.items ≡ told (caret_numbers print.now session.now.width session.now.kept caret) }
+    ensures { result.items
+        ≡ numbers_answer (caret_numbers print.now session.now.width session.now.kept caret) }
 {
     let left = match session.line(caret.line) {
         Some(line) => screen_left(&line, session.measured_width(), print),
         None => empty_left(caret.level, session.measured_width(), print),
     };
-    told(&[caret.line, left + caret.column, caret.level as usize])
+    numbers_answer(&[caret.line, left + caret.column, caret.level as usize])
 }
 
 fn caret_answer<S: ParagraphStore<Kept>>(session: &Session<S>, print: &Print, pos: usize) -> Answer
@@ -70,7 +75,7 @@ fn caret_answer<S: ParagraphStore<Kept>>(session: &Session<S>, print: &Print, po
         (rules_of session.now.engine) pos }
 {
     match session.caret(pos) {
-        Some(caret) => told_caret(session, print, caret),
+        Some(caret) => answer_of_caret(session, print, caret),
         None => out_of_range(),
     }
 }
@@ -128,7 +133,7 @@ fn hit_answer<S: ParagraphStore<Kept>>(
     ensures { result.items ≡ hit_text print.now session.now.width session.now.kept n column }
 {
     match screen_hit(session, print, n, column) {
-        Some(hit) => told(&[hit.pos, usize::from(hit.trailing)]),
+        Some(hit) => numbers_answer(&[hit.pos, usize::from(hit.trailing)]),
         None => out_of_range(),
     }
 }
@@ -210,7 +215,7 @@ fn edge_caret_answer<S: ParagraphStore<Kept>>(
         return Ok(caret_answer(session, print, pos));
     }
     match edge_caret(session, pos, is_after)? {
-        Some(caret) => Ok(told_caret(session, print, caret)),
+        Some(caret) => Ok(answer_of_caret(session, print, caret)),
         None => Ok(out_of_range()),
     }
 }
@@ -229,15 +234,15 @@ fn step_answer<S: ParagraphStore<Kept>>(
         return Ok(out_of_range());
     }
     match session.step(edge, direction)? {
-        Some(next) => Ok(told_edge(next)),
-        None => Ok(told_end()),
+        Some(next) => Ok(edge_answer(next)),
+        None => Ok(end_answer()),
     }
 }
 
 // Returns the number of screen columns to the left of the shown part of line `n`, or 0 if there is no such
 // line.
-fn left_on<S: ParagraphStore<Kept>>(session: &Session<S>, print: &Print, n: usize) -> usize
-    ensures { result ≡ left_on print.now session.now.width session.now.kept
+fn left_columns<S: ParagraphStore<Kept>>(session: &Session<S>, print: &Print, n: usize) -> usize
+    ensures { result ≡ left_columns print.now session.now.width session.now.kept
         (slice_get (lines_in session.now.kept) n) }
 {
     match session.line(n) {
@@ -256,8 +261,8 @@ fn at_answer<S: ParagraphStore<Kept>>(
         ≡ at_text print.now session.now.width session.now.kept (rules_of session.now.engine) n column) }
     ensures memory { OnErr result (n < length (lines_in session.now.kept)) }
 {
-    match session.edge_at(n, column.saturating_sub(left_on(session, print, n)))? {
-        Some(edge) => Ok(told_edge(edge)),
+    match session.edge_at(n, column.saturating_sub(left_columns(session, print, n)))? {
+        Some(edge) => Ok(edge_answer(edge)),
         None => Ok(out_of_range()),
     }
 }
@@ -266,7 +271,7 @@ fn ends_answer<S: ParagraphStore<Kept>>(session: &Session<S>, n: usize) -> Answe
     ensures { result.items ≡ ends_text session.now.kept (rules_of session.now.engine) n }
 {
     match session.line_edges(n) {
-        Some(edges) => told_edges(edges.first, edges.last),
+        Some(edges) => edges_answer(edges.first, edges.last),
         None => out_of_range(),
     }
 }
@@ -274,7 +279,7 @@ fn ends_answer<S: ParagraphStore<Kept>>(session: &Session<S>, n: usize) -> Answe
 fn size_answer<S: ParagraphStore<Kept>>(session: &Session<S>) -> Answer
     ensures { result.items ≡ size_text session.now.kept }
 {
-    told(&[
+    numbers_answer(&[
         session.char_count(),
         session.line_count(),
         session.paragraph_count(),
@@ -302,8 +307,8 @@ fn write_lines<W: Sink, S: ParagraphStore<Kept>>(
     if first > lines || count > lines - first {
         return write_bytes(writer, written, &out_of_range());
     }
-    let told = write_bytes(writer, written, &told(&[count]))?;
-    match session.print_lines_after(writer, told, first, count, print) {
+    let total = write_bytes(writer, written, &numbers_answer(&[count]))?;
+    match session.print_lines_after(writer, total, first, count, print) {
         Ok(written) => Ok(written),
         Err(RangeFault::Write(fault)) => Err(RunFault::Write(fault.written)),
         Err(RangeFault::OutOfRange) => unreachable!(),
@@ -312,7 +317,7 @@ fn write_lines<W: Sink, S: ParagraphStore<Kept>>(
 
 // Writes the reply to `text`: the number of bytes and then `count` characters, starting at `pos`, or
 // `out_of_range`. `written` is the number of bytes already written.
-fn write_part<W: Sink, S: ParagraphStore<Kept>>(
+fn write_text<W: Sink, S: ParagraphStore<Kept>>(
     session: &Session<S>,
     writer: &mut W,
     written: u64,
@@ -329,8 +334,8 @@ fn write_part<W: Sink, S: ParagraphStore<Kept>>(
     let Some(len) = session.utf8_len(pos, count) else {
         return write_bytes(writer, written, &out_of_range());
     };
-    let told = write_bytes(writer, written, &told(&[len]))?;
-    let part = match session.write_text_after(writer, told, pos, count) {
+    let total = write_bytes(writer, written, &numbers_answer(&[len]))?;
+    let part = match session.write_text_after(writer, total, pos, count) {
         Ok(written) => written,
         Err(RangeFault::Write(fault)) => return Err(RunFault::Write(fault.written)),
         Err(RangeFault::OutOfRange) => unreachable!(),
@@ -469,7 +474,7 @@ pub fn write_query<W: Sink, S: ParagraphStore<Kept>>(
         Query::Lines(first, count) => {
             return write_lines(session, writer, written, print, first, count);
         }
-        Query::Text(pos, count) => return write_part(session, writer, written, pos, count),
+        Query::Text(pos, count) => return write_text(session, writer, written, pos, count),
         Query::Spans(n, start, end) => {
             return write_selection(session, writer, written, print, n, start, end);
         }

@@ -321,7 +321,7 @@ fn is_too_long(line: &[u8], more: &[u8]) -> bool
 }
 
 // Returns the index of the first line end in a chunk, or `None` if no line ends in it.
-fn line_end(chunk: &[u8]) -> Option<usize>
+fn newline_index(chunk: &[u8]) -> Option<usize>
     ensures { MatchOption result (NoEnd chunk.now) (λ n. (n < length chunk.now)
         × EndsIn chunk.now (take n chunk.now) (drop (n + 1) chunk.now)) }
 {
@@ -345,7 +345,7 @@ fn take_part<W: Sink, S: ParagraphStore<Kept>>(
         session.old session.new reading.old reading.new (W.state writer.old) (W.state writer.new)) }
     ensures rules { SameRules session.old.engine session.new.engine }
 {
-    match line_end(chunk) {
+    match newline_index(chunk) {
         Some(end) => {
             match grow(reading, &chunk[..end]) {
                 Ok(()) => (),

@@ -7,38 +7,38 @@ use Rattle.std.proofs.lemmas.List.Elements.{All-from_get_or}
 use Rattle.std.proofs.lemmas.List.Folds.{list_any_at, list_any_none}
 use Rattle.std.proofs.lemmas.List.Sums.{position_or_len_is}
 use Rattle.std.proofs.lemmas.List.Splits.{slice_split_first, slice_split_none}
-use Rattle.ucd.specs.Grammar.{is_mark, rest_after}
+use Rattle.ucd.specs.Grammar.{is_delimiter, rest_after}
 
 -- no byte before the index `at` is the delimiter
-abbrev pub NoMarkBelow : ℕ → List ℕ → ℕ → Type 0
-NoMarkBelow mark bytes at = (k : ℕ) → k < at → get_or bytes k 0 ≡ mark → ⊥
+abbrev pub NoDelimiterBelow : ℕ → List ℕ → ℕ → Type 0
+NoDelimiterBelow delimiter bytes at = (k : ℕ) → k < at → get_or bytes k 0 ≡ delimiter → ⊥
 
 -- if the first delimiter is at index `at`, the list is split into the parts before and after that index
-module _ (mark : ℕ) (bytes : List ℕ) (at : ℕ) (below : NoMarkBelow mark bytes at) (within : at < length bytes) (here : get_or bytes at 0 ≡ mark) where
-  first_place : position_or_len (is_mark mark) bytes ≡ at
-  first_place = position_or_len_is (is_mark mark) bytes at 0 (omega arith) (λ k lt. ne_eqb _ _ (below k lt)) (λ _. eq-eqb _ _ here)
+module _ (delimiter : ℕ) (bytes : List ℕ) (at : ℕ) (below : NoDelimiterBelow delimiter bytes at) (within : at < length bytes) (here : get_or bytes at 0 ≡ delimiter) where
+  first_place : position_or_len (is_delimiter delimiter) bytes ≡ at
+  first_place = position_or_len_is (is_delimiter delimiter) bytes at 0 (omega arith) (λ k lt. ne_eqb _ _ (below k lt)) (λ _. eq-eqb _ _ here)
 
-  pub front_at : take at bytes ≡ before_first (is_mark mark) bytes
+  pub front_at : take at bytes ≡ before_first (is_delimiter delimiter) bytes
   front_at = rw first_place refl
 
-  pub rest_at : Some (take (length bytes - (at + 1)) (drop (at + 1) bytes)) ≡ rest_after mark bytes
-  rest_at = rw (list_any_at (is_mark mark) bytes at 0 within (eq-eqb _ _ here), take_rest bytes (at + 1), first_place) refl
+  pub rest_at : Some (take (length bytes - (at + 1)) (drop (at + 1) bytes)) ≡ rest_after delimiter bytes
+  rest_at = rw (list_any_at (is_delimiter delimiter) bytes at 0 within (eq-eqb _ _ here), take_rest bytes (at + 1), first_place) refl
 
-  pub parts_at : slice_split (is_mark mark) bytes ≡ take at bytes ∷ slice_split (is_mark mark) (take (length bytes - (at + 1)) (drop (at + 1) bytes))
+  pub parts_at : slice_split (is_delimiter delimiter) bytes ≡ take at bytes ∷ slice_split (is_delimiter delimiter) (take (length bytes - (at + 1)) (drop (at + 1) bytes))
   parts_at =
-      let lt : position_or_len (is_mark mark) bytes < length bytes = omega (arith, first_place) in
-      rw (slice_split_first (is_mark mark) bytes 0 lt, take_rest bytes (at + 1), first_place) refl
+      let lt : position_or_len (is_delimiter delimiter) bytes < length bytes = omega (arith, first_place) in
+      rw (slice_split_first (is_delimiter delimiter) bytes 0 lt, take_rest bytes (at + 1), first_place) refl
 
 -- if the list contains no delimiter, the first part is the whole list, and there is no other part
-module _ (mark : ℕ) (bytes : List ℕ) (none : NoMarkBelow mark bytes (length bytes)) where
-  all_fail : All (λ x. is_mark mark x ≡ false) bytes
-  all_fail = All-from_get_or (λ x. is_mark mark x ≡ false) bytes 0 (λ k lt. ne_eqb _ _ (none k lt))
+module _ (delimiter : ℕ) (bytes : List ℕ) (none : NoDelimiterBelow delimiter bytes (length bytes)) where
+  all_fail : All (λ x. is_delimiter delimiter x ≡ false) bytes
+  all_fail = All-from_get_or (λ x. is_delimiter delimiter x ≡ false) bytes 0 (λ k lt. ne_eqb _ _ (none k lt))
 
-  pub front_all : bytes ≡ before_first (is_mark mark) bytes
-  front_all = rw (position_or_len_is (is_mark mark) bytes (length bytes) 0 (omega arith) (λ k lt. ne_eqb _ _ (none k lt)) (λ lt. absurd (omega arith))) (sym (take_all _ bytes (omega arith)))
+  pub front_all : bytes ≡ before_first (is_delimiter delimiter) bytes
+  front_all = rw (position_or_len_is (is_delimiter delimiter) bytes (length bytes) 0 (omega arith) (λ k lt. ne_eqb _ _ (none k lt)) (λ lt. absurd (omega arith))) (sym (take_all _ bytes (omega arith)))
 
-  pub rest_none : None ≡ rest_after mark bytes
-  rest_none = rw (list_any_none (is_mark mark) bytes all_fail) refl
+  pub rest_none : None ≡ rest_after delimiter bytes
+  rest_none = rw (list_any_none (is_delimiter delimiter) bytes all_fail) refl
 
-  pub parts_one : slice_split (is_mark mark) bytes ≡ bytes ∷ []
-  parts_one = slice_split_none (is_mark mark) bytes all_fail
+  pub parts_one : slice_split (is_delimiter delimiter) bytes ≡ bytes ∷ []
+  parts_one = slice_split_none (is_delimiter delimiter) bytes all_fail

@@ -6,9 +6,9 @@ use Rattle.std.proofs.lemmas.Bool.{cases_lt, lt-ltb, leb-true, ne_eqb, and_parts
 use Rattle.std.proofs.lemmas.List.{get_or-take, get_or-drop, length-take-le, length-drop, take_all, take_rest, ext_get_or}
 use Rattle.std.proofs.lemmas.List.Elements.{All-from_get_or, All-get_or}
 use Rattle.std.proofs.lemmas.List.Sums.{list_all-from_AllPass, AllPass-from_list_all}
-use Rattle.ucd.specs.Grammar.{is_mark, is_one_of, spaces, blanks, trimmed, before_comment, content_of, fields_of, hex_value, is_code_point, code_point, points_by, points_of}
+use Rattle.ucd.specs.Grammar.{is_delimiter, is_one_of, spaces, blanks, trimmed, before_comment, content_of, fields_of, hex_value, is_code_point, code_point, points_by, points_of}
 use Rattle.ucd.specs.PlainLines.{IsWordByte, AreWord, AreSpaces, IsPlain}
-use Rattle.ucd.proofs.Cuts.{NoMarkBelow, front_at, front_all, parts_at, parts_one}
+use Rattle.ucd.proofs.Cuts.{NoDelimiterBelow, front_at, front_all, parts_at, parts_one}
 use Rattle.ucd.proofs.Trims.{trimmed_at}
 
 -- if m ≤ h, taking h items of a list and then m of these is the same as taking m items
@@ -121,18 +121,18 @@ module _ (line : List ℕ) (f s n m h : ℕ) (some : 0 < f) (fs : f ≤ s) (sn :
       let long : length (content_of line) ≡ m = ap length content ∙ length-take-le m line (omega arith) in
       ne_eqb _ _ (λ is. omega (arith, long, is))
 
-  split : slice_split (is_mark 59) (take m line) ≡ take s line ∷ drop (s + 1) (take m line) ∷ []
+  split : slice_split (is_delimiter 59) (take m line) ≡ take s line ∷ drop (s + 1) (take m line) ∷ []
   split =
       let front = take m line in
       let long : length front ≡ m = length-take-le m line (omega arith) in
       let byte : (k : ℕ) → k < m → get_or front k 0 ≡ get_or line k 0 = λ k lt. get_or-take m line k 0 lt in
       let rest : take (length front - (s + 1)) (drop (s + 1) front) ≡ drop (s + 1) front = take_rest front (s + 1) in
       let left : length (drop (s + 1) front) ≡ m - (s + 1) = omega (arith, length-drop (s + 1) front, long) in
-      let none : NoMarkBelow 59 (drop (s + 1) front) (length (drop (s + 1) front)) = λ k lt other.
+      let none : NoDelimiterBelow 59 (drop (s + 1) front) (length (drop (s + 1) front)) = λ k lt other.
       let within : s + 1 + k < m = omega (arith, left) in
       after_separator (s + 1 + k) (omega arith) within (sym (byte (s + 1 + k) within) ∙ sym (get_or-drop (s + 1) front k 0) ∙ other) in
       parts_at 59 front s (λ k lt other. before_separator k lt (sym (byte k (omega arith)) ∙ other)) (omega (arith, long)) (byte s (omega arith) ∙ separator)
-      ∙ ap (λ part. take s front ∷ slice_split (is_mark 59) part) rest
+      ∙ ap (λ part. take s front ∷ slice_split (is_delimiter 59) part) rest
       ∙ ap (λ parts. take s front ∷ parts) (parts_one 59 (drop (s + 1) front) none)
       ∙ ap (λ part. part ∷ drop (s + 1) front ∷ []) (take_take line s m (omega arith) (omega arith))
 
@@ -256,10 +256,10 @@ module _ (line : List ℕ) (d e v w : ℕ) (within : d + 2 + e ≤ length line) 
       (parts_at 46 front d
       (λ k lt other. no_dot _ (digit_at (take d line) v k first (omega (arith, short))) (get_or-take d line k 0 lt ∙ sym (byte k (omega arith)) ∙ other))
       (omega (arith, long)) (byte d (omega arith) ∙ dot)
-      ∙ ap (λ part. take d front ∷ slice_split (is_mark 46) part) (take_rest front (d + 1))
+      ∙ ap (λ part. take d front ∷ slice_split (is_delimiter 46) part) (take_rest front (d + 1))
       ∙ ap (λ parts. take d front ∷ parts)
       (parts_at 46 rest 0 (λ k lt. absurd (omega arith)) (omega (arith, left)) (later 0 (omega arith) ∙ ap (λ k. get_or line k 0) next ∙ other_dot)
-      ∙ ap (λ part. [] ∷ slice_split (is_mark 46) part) (take_rest rest (0 + 1) ∙ is_end)
+      ∙ ap (λ part. [] ∷ slice_split (is_delimiter 46) part) (take_rest rest (0 + 1) ∙ is_end)
       ∙ ap (λ parts. [] ∷ parts) (parts_one 46 end (λ k lt. no_dot _ (digit_at end w k last lt))))
       ∙ ap (λ part. part ∷ [] ∷ end ∷ []) begin)
       ∙ rw (first, last) refl

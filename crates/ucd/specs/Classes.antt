@@ -27,9 +27,9 @@ is_separator B = true
 is_separator _ = false
 
 -- whether characters of a class are nonspacing marks
-abbrev pub is_mark : BidiClass → Bool
-is_mark NSM = true
-is_mark _ = false
+abbrev pub is_nonspacing_mark : BidiClass → Bool
+is_nonspacing_mark NSM = true
+is_nonspacing_mark _ = false
 
 -- X9: whether characters of a class are removed
 abbrev pub is_removed : BidiClass → Bool

@@ -7,13 +7,13 @@ use Rattle.ucd.specs.declared.fault.Cause.TheVariants as cause
 use Rattle.ucd.specs.declared.grammar.Entry.{Entry}
 
 -- whether a byte is the given separator, which can separate lines, fields, or the ends of a range
-abbrev pub is_mark : ℕ → ℕ → Bool
-is_mark mark b = b == mark
+abbrev pub is_delimiter : ℕ → ℕ → Bool
+is_delimiter delimiter b = b == delimiter
 
 -- A line ends at U+000A, which is optional on the last line. If a file ends with U+000A, its last line is
 -- empty.
 abbrev pub lines_of : List ℕ → List (List ℕ)
-lines_of file = slice_split (is_mark 10) file
+lines_of file = slice_split (is_delimiter 10) file
 
 -- removes the bytes at both ends that pass the test
 abbrev pub trimmed : (ℕ → Bool) → List ℕ → List ℕ
@@ -31,7 +31,7 @@ blanks = 32 ∷ 9 ∷ 13 ∷ []
 
 -- the part of a line before the first `#`
 abbrev pub before_comment : List ℕ → List ℕ
-before_comment line = before_first (is_mark 35) line
+before_comment line = before_first (is_delimiter 35) line
 
 -- the part of a line before the first `#`, without the white space at both ends
 abbrev pub content_of : List ℕ → List ℕ
@@ -39,7 +39,7 @@ content_of line = trimmed (is_one_of blanks) (before_comment line)
 
 -- the fields of a line, which are separated by `;`
 abbrev pub fields_of : List ℕ → List (List ℕ)
-fields_of content = map (trimmed (is_one_of spaces)) (slice_split (is_mark 59) content)
+fields_of content = map (trimmed (is_one_of spaces)) (slice_split (is_delimiter 59) content)
 
 -- the number that hexadecimal digits denote
 abbrev pub hex_value : List ℕ → ℕ
@@ -65,7 +65,7 @@ points_by true (x ∷ [] ∷ y ∷ []) = both (code_point x) (code_point y)
 points_by has_ranges parts = None
 
 abbrev pub points_of : Bool → List ℕ → Option (ℕ × ℕ)
-points_of has_ranges field = points_by has_ranges (slice_split (is_mark 46) field)
+points_of has_ranges field = points_by has_ranges (slice_split (is_delimiter 46) field)
 
 -- The form of a file's lines: whether the first field may be a range, and whether there is a third field.
 -- `value` parses the second and third fields. It returns `None` if the value is unknown, and `Some None` if
@@ -101,9 +101,9 @@ module _ {V : Type 0} (form : Form V) where
 
 -- the bytes after the first separator, if there is one
 abbrev pub rest_after : ℕ → List ℕ → Option (List ℕ)
-rest_after mark bytes = if list_any (is_mark mark) bytes then Some (after_first (is_mark mark) bytes) else None
+rest_after delimiter bytes = if list_any (is_delimiter delimiter) bytes then Some (after_first (is_delimiter delimiter) bytes) else None
 
 -- the parts between separators: the first part, followed by the parts of the rest
 abbrev pub parts_of : ℕ → List ℕ → Option (List ℕ) → List (List ℕ)
-parts_of mark front None = front ∷ []
-parts_of mark front (Some rest) = front ∷ slice_split (is_mark mark) rest
+parts_of delimiter front None = front ∷ []
+parts_of delimiter front (Some rest) = front ∷ slice_split (is_delimiter delimiter) rest

@@ -3,7 +3,7 @@ use Rattle.std.specs.Prelude.{⊤, ◌≡◌, ℕ, ◌<◌, ◌≤◌, List, [],
 use Rattle.ucd.specs.Layers.{Layers}
 use Rattle.ucd.specs.Said.{said}
 use Rattle.ucd.specs.declared.grammar.Entry.{Entry}
-use Rattle.ucd.specs.declared.runs.Left.{Left}
+use Rattle.ucd.specs.declared.runs.Cursors.{Cursors}
 use Rattle.ucd.specs.declared.runs.Runs.{Runs}
 
 -- the first entry, if there is one, does not end before the code point
@@ -12,7 +12,7 @@ EndsFrom point [] = ⊤
 EndsFrom point (e ∷ es) = point ≤ e.last
 
 -- the remaining entries of all lists
-abbrev pub layers_left : Left → Layers
+abbrev pub layers_left : Cursors → Layers
 layers_left l = record {
   version = l.version;
   default_classes = l.default_classes;

@@ -2,7 +2,7 @@
 ghost use Rattle.std.specs.Prelude.{◌≡◌, ◌<◌, ◌≤◌, length, IfSome, option_map, if◌then◌else◌};
 ghost use Rattle.std.specs.List.{slice_split, before_first, list_all};
 ghost use Rattle.std.specs.Char.{is_ascii_hexdigit};
-ghost use Rattle.ucd.specs.Grammar.{is_mark, is_one_of, trimmed, fields_of, hex_value, code_point};
+ghost use Rattle.ucd.specs.Grammar.{is_delimiter, is_one_of, trimmed, fields_of, hex_value, code_point};
 ghost use Rattle.ucd.specs.Grammar.{both, points_of, by_points, by_fields, reading_of, rest_after, parts_of};
 
 use crate::digits::digit_of;
@@ -61,30 +61,30 @@ pub trait Layer: Copy + Drop {
         ensures { result ≡ put version self properties };
 }
 
-/// Returns the bytes before the first `mark` and, if `mark` occurs, the bytes after it.
-pub(crate) fn cut(bytes: &[u8], mark: u8) -> (&[u8], Option<&[u8]>)
-    ensures front { result.0.now ≡ before_first (is_mark mark) bytes.now }
-    ensures rest { option_map (λ rest. rest.now) result.1 ≡ rest_after mark bytes.now }
-    ensures parts { slice_split (is_mark mark) bytes.now
-        ≡ parts_of mark result.0.now (option_map (λ rest. rest.now) result.1) }
+/// Returns the bytes before the first `delimiter` and, if `delimiter` occurs, the bytes after it.
+pub(crate) fn cut(bytes: &[u8], delimiter: u8) -> (&[u8], Option<&[u8]>)
+    ensures front { result.0.now ≡ before_first (is_delimiter delimiter) bytes.now }
+    ensures rest { option_map (λ rest. rest.now) result.1 ≡ rest_after delimiter bytes.now }
+    ensures parts { slice_split (is_delimiter delimiter) bytes.now
+        ≡ parts_of delimiter result.0.now (option_map (λ rest. rest.now) result.1) }
     ensures shorter { IfSome result.1 (λ rest. length rest.now < length bytes.now) }
 {
-    match memchr(mark, bytes) {
+    match memchr(delimiter, bytes) {
         Some(at) => (&bytes[..at], Some(&bytes[at + 1..])),
         None => (bytes, None),
     }
 }
 
-// Does the same as `cut`, but byte by byte, which is faster if the mark is among the first bytes.
-fn cut_near(bytes: &[u8], mark: u8) -> (&[u8], Option<&[u8]>)
-    ensures front { result.0.now ≡ before_first (is_mark mark) bytes.now }
-    ensures rest { option_map (λ rest. rest.now) result.1 ≡ rest_after mark bytes.now }
-    ensures parts { slice_split (is_mark mark) bytes.now
-        ≡ parts_of mark result.0.now (option_map (λ rest. rest.now) result.1) }
+// Does the same as `cut`, but byte by byte, which is faster if the delimiter is among the first bytes.
+fn cut_near(bytes: &[u8], delimiter: u8) -> (&[u8], Option<&[u8]>)
+    ensures front { result.0.now ≡ before_first (is_delimiter delimiter) bytes.now }
+    ensures rest { option_map (λ rest. rest.now) result.1 ≡ rest_after delimiter bytes.now }
+    ensures parts { slice_split (is_delimiter delimiter) bytes.now
+        ≡ parts_of delimiter result.0.now (option_map (λ rest. rest.now) result.1) }
     ensures shorter { IfSome result.1 (λ rest. length rest.now < length bytes.now) }
 {
     for (at, byte) in bytes.iter().enumerate() {
-        if *byte == mark {
+        if *byte == delimiter {
             return (&bytes[..at], Some(&bytes[at + 1..]));
         }
     }

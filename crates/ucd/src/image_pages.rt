@@ -2,7 +2,7 @@
 ghost use Rattle.std.specs.Prelude.{◌≡◌, ◌≢◌, ℕ, ◌+◌, ◌*◌, ◌%◌, ◌<◌, ◌≤◌, true, false};
 ghost use Rattle.std.specs.Prelude.{length, slice_index, slice_index_or, IfOk, IsTrue};
 ghost use Rattle.ucd.specs.Answers.{unnamed, answers_in};
-ghost use Rattle.ucd.specs.ImagePages.{IsQuiet};
+ghost use Rattle.ucd.specs.ImagePages.{IsOrdinary};
 ghost use Rattle.ucd.specs.Images.{image_version, page_number, entry_at, is_entry};
 ghost use Rattle.ucd.specs.Pages.{answers_at};
 ghost use Rattle.ucd.specs.Separators.{may_separate, IsUsual};
@@ -73,46 +73,48 @@ pub fn entries_in(alloc: Global, bytes: &[u8], count: usize) -> Result<Vec<Prope
     Ok(entries)
 }
 
-/// The pages of an image. `loud` has a flag for each page (`loud_pages`).
+/// The pages of an image. `special` has a flag for each page (`special_pages`).
 #[derive(Drop)]
 pub struct ImagePages {
     pub(crate) index: Vec<u16>,
     pub(crate) entries: Vec<Properties>,
-    loud: Vec<bool>,
+    special: Vec<bool>,
     ghost places: { length index.items ≡ 4352 },
     ghost within: { (p : ℕ) → p < 4352 → slice_index index.items p * 256 + 256 ≤ length entries.items },
-    ghost pages: { length loud.items * 256 ≡ length entries.items },
-    ghost quiet: { (p k : ℕ) → p < length loud.items → k < 256 → slice_index_or loud.items p false ≡ false
-        → IsQuiet (slice_index_or entries.items (p * 256 + k) unnamed) },
+    ghost pages: { length special.items * 256 ≡ length entries.items },
+    ghost ordinary: { (p k : ℕ) → p < length special.items → k < 256
+        → slice_index_or special.items p false ≡ false
+        → IsOrdinary (slice_index_or entries.items (p * 256 + k) unnamed) },
 }
 
 // Returns, for each page, whether it contains a paragraph separator, a bracket, or a character with a mirror.
-fn loud_pages(alloc: Global, entries: &[Properties]) -> Result<Vec<bool>, AllocError>
+fn special_pages(alloc: Global, entries: &[Properties]) -> Result<Vec<bool>, AllocError>
     requires { length entries.now % 256 ≡ 0 }
-    ensures len { IfOk result (λ loud. length loud.items * 256 ≡ length entries.now) }
-    ensures quiet { IfOk result (λ loud. (p k : ℕ) → p < length loud.items → k < 256
-        → slice_index_or loud.items p false ≡ false
-        → IsQuiet (slice_index_or entries.now (p * 256 + k) unnamed)) }
+    ensures len { IfOk result (λ special. length special.items * 256 ≡ length entries.now) }
+    ensures ordinary { IfOk result (λ special. (p k : ℕ) → p < length special.items → k < 256
+        → slice_index_or special.items p false ≡ false
+        → IsOrdinary (slice_index_or entries.now (p * 256 + k) unnamed)) }
 {
     let pages = entries.len() / PAGE;
-    let mut loud = Vec::with_capacity(alloc, pages)?;
+    let mut special = Vec::with_capacity(alloc, pages)?;
     for page in 0..pages {
-        loud.push(is_loud(entries, page * PAGE))?;
+        special.push(is_special(entries, page * PAGE))?;
     }
-    Ok(loud)
+    Ok(special)
 }
 
 // Returns whether the page that starts at an index contains a paragraph separator, a bracket, or a character
 // with a mirror. Reads the whole page, which is faster than exiting the loop early.
-fn is_loud(entries: &[Properties], start: usize) -> bool
+fn is_special(entries: &[Properties], start: usize) -> bool
     requires { start + 256 ≤ length entries.now }
-    ensures { result ≡ false → (k : ℕ) → k < 256 → IsQuiet (slice_index_or entries.now (start + k) unnamed) }
+    ensures { result ≡ false → (k : ℕ) → k < 256
+        → IsOrdinary (slice_index_or entries.now (start + k) unnamed) }
 {
-    let mut loud = false;
+    let mut special = false;
     for k in 0..PAGE {
-        loud |= !entries[start + k].is_quiet();
+        special |= !entries[start + k].is_ordinary();
     }
-    loud
+    special
 }
 
 impl ImagePages {
@@ -129,11 +131,11 @@ impl ImagePages {
         ensures index { IfOk result (λ pages. pages.index.items ≡ index.items) }
         ensures entries { IfOk result (λ pages. pages.entries.items ≡ entries.items) }
     {
-        let loud = loud_pages(alloc, &entries)?;
+        let special = special_pages(alloc, &entries)?;
         Ok(ImagePages {
             index,
             entries,
-            loud,
+            special,
         })
     }
 
@@ -147,12 +149,12 @@ impl ImagePages {
 
     /// Returns `true` only if a block contains no paragraph separator, no bracket, and no character with a
     /// mirror.
-    pub fn is_quiet(&self, block: usize) -> bool
+    pub fn is_ordinary(&self, block: usize) -> bool
         requires { block < 4352 }
         ensures { result ≡ true → (c : ℕ) → block * 256 ≤ c → c < block * 256 + 256
-            → IsQuiet (answers_at self.now.index.items self.now.entries.items c) }
+            → IsOrdinary (answers_at self.now.index.items self.now.entries.items c) }
     {
-        !self.loud[self.index[block] as usize]
+        !self.special[self.index[block] as usize]
     }
 
     // Returns whether every code point of class B in a block is U+0085, U+2029 or below U+0020.
@@ -163,7 +165,7 @@ impl ImagePages {
         ensures no { result ≡ false → ¬ ((c : ℕ) → block * 256 ≤ c → c < block * 256 + 256
             → IsUsual c (answers_at self.now.index.items self.now.entries.items c)) }
     {
-        if self.is_quiet(block) {
+        if self.is_ordinary(block) {
             return true;
         }
         for c in block * PAGE..block * PAGE + PAGE {
@@ -198,7 +200,7 @@ impl ImagePages {
         let ImagePages {
             index,
             entries,
-            loud: _,
+            special: _,
         } = self;
         Pages {
             index,

@@ -141,7 +141,7 @@ fn are_flags_points_of<P: Point>(
         → P.flag (answers_at pages.now.index.items pages.now.entries.items c) ≡ true
         → IsSome (get nat_cmp points.now c)) }
 {
-    if pages.is_quiet(block) {
+    if pages.is_ordinary(block) {
         return true;
     }
     for c in block * PAGE..block * PAGE + PAGE {

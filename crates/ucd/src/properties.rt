@@ -53,7 +53,7 @@ impl Properties {
     ghost use Rattle.ucd.specs.Answers.{AreBits, answers_in, line_answers, line_answers_at, line_class_at};
     ghost use Rattle.ucd.specs.Answers.{line_detail_at, line_index, unnamed};
     ghost use Rattle.ucd.specs.DistinctPages.{IsEntryOf};
-    ghost use Rattle.ucd.specs.ImagePages.{IsQuiet};
+    ghost use Rattle.ucd.specs.ImagePages.{IsOrdinary};
     ghost use Rattle.ucd.specs.Images.{is_entry};
     ghost use Rattle.ucd.specs.LineSeparators.{answers_for_lines, answers_if};
     ghost use Rattle.ucd.specs.Versions.{circle_by, quote_by};
@@ -240,8 +240,8 @@ impl Properties {
     }
 
     /// Returns whether the character is neither a paragraph separator nor a bracket, and has no mirror.
-    pub(crate) fn is_quiet(self) -> bool
-        ensures { result ≡ true → IsQuiet self }
+    pub(crate) fn is_ordinary(self) -> bool
+        ensures { result ≡ true → IsOrdinary self }
     {
         (self.bits % 32 != BidiClass::B as u16) & (self.bits / 32 % 4 == 0)
     }

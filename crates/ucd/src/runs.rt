@@ -128,7 +128,7 @@ impl<'a, V: Layer> Cursor<'a, V> {
 
 /// The remaining entries of all files.
 #[derive(Drop)]
-pub struct Left<'a> {
+pub struct Cursors<'a> {
     version: Version,
     default_classes: Cursor<'a, BidiClass>,
     bidi_classes: Cursor<'a, BidiClass>,
@@ -141,14 +141,14 @@ pub struct Left<'a> {
     categories: Cursor<'a, Category>,
 }
 
-impl<'a> Left<'a> {
+impl<'a> Cursors<'a> {
     ghost use Rattle.ucd.specs.Runs.{layers_left, AllEndFrom};
     ghost use Rattle.ucd.specs.Said.{said, layers_of};
 
-    fn of(version: Version, entries: &'a Entries) -> Left<'a>
+    fn of(version: Version, entries: &'a Entries) -> Cursors<'a>
         ensures { layers_left result ≡ layers_of version entries.now }
     {
-        Left {
+        Cursors {
             version,
             default_classes: Cursor::of(default_classes(version)),
             bidi_classes: Cursor::new(&entries.bidi.classes),
@@ -211,7 +211,7 @@ impl<'a> Left<'a> {
 /// A run, and the entries after it.
 #[derive(Drop)]
 pub struct Runs<'a> {
-    left: Left<'a>,
+    left: Cursors<'a>,
     run: Run,
 }
 
@@ -230,7 +230,7 @@ impl<'a> Runs<'a> {
             properties: Properties::unnamed(),
         };
         Runs {
-            left: Left::of(version, entries),
+            left: Cursors::of(version, entries),
             run,
         }
     }

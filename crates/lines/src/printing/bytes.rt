@@ -272,7 +272,7 @@ pub(crate) fn write_shown<W: Sink>(
     if print.novisual {
         return Ok(before);
     }
-    let padded = write_spaces(writer, before, padding(line, width, print))?;
+    let padded = write_spaces(writer, before, padding_len(line, width, print))?;
     let shown = write_shown_chars(writer, padded, line, print)?;
     write_part(writer, shown, b"\n")
 }
@@ -422,7 +422,7 @@ fn write_cells<W: Sink>(
 }
 
 // Returns the number of spaces that are printed to the left of a line.
-fn padding(line: &VisualLine<'_>, width: u32, print: &Print) -> usize
+fn padding_len(line: &VisualLine<'_>, width: u32, print: &Print) -> usize
     ensures { replicate result 32 ≡ padding width print.now line.now }
 {
     if print.nopad || line.is_measured {

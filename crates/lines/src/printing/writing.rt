@@ -123,11 +123,11 @@ pub(crate) fn write_line<W: Sink>(
         return write_ordered(writer, before, form, line, &[], &[]);
     }
     let is_flat = reset_front(line, &mut visual.levels);
-    write_part(writer, before, form, line, is_flat, visual)
+    write_with_levels(writer, before, form, line, is_flat, visual)
 }
 
 // Writes a line whose levels after L1 are at the front of `visual.levels`.
-fn write_part<W: Sink>(
+fn write_with_levels<W: Sink>(
     writer: &mut W,
     before: u64,
     form: &Form<'_>,

@@ -116,7 +116,7 @@ fn closer_of(pairs: &[Pair], opener: usize) -> Option<usize> {
     None
 }
 
-// Sets the types of a pair's brackets, and of the marks after them, if the pair has a direction.
+// Sets the types of a pair's brackets, and of the nonspacing marks after them, if the pair has a direction.
 fn set_pair(
     types: &mut [BidiClass],
     classes: &[BidiClass],
@@ -182,7 +182,7 @@ fn opposite(side: BidiClass) -> BidiClass {
     }
 }
 
-// Sets the type at an index, and the types of the marks directly after it.
+// Sets the type at an index, and the types of the nonspacing marks directly after it.
 fn set_with_marks(
     types: &mut [BidiClass],
     classes: &[BidiClass],

@@ -6,7 +6,7 @@ use ucd::LineClass;
 
 // How far a list of classes matches `(PR | PO)? (OP | HY)? NU (NU | SY | IS)* (CL | CP)? (PR | PO)?`.
 #[derive(Clone, Copy)]
-enum Place {
+enum NumberPart {
     Start,
     Affix,
     Opening,
@@ -27,9 +27,9 @@ pub fn is_in_number(classes: &[LineClass], place: usize) -> bool {
 
 // Returns whether some number that begins with the base at `start` contains the base at `place`.
 fn begins_number(classes: &[LineClass], start: usize, place: usize) -> bool {
-    let mut at = Place::Start;
+    let mut at = NumberPart::Start;
     for i in start..classes.len() {
-        let Some(next) = place_after(at, classes[i]) else {
+        let Some(next) = part_after(at, classes[i]) else {
             return false;
         };
         if i >= place && is_number(next) {
@@ -40,21 +40,23 @@ fn begins_number(classes: &[LineClass], start: usize, place: usize) -> bool {
     false
 }
 
-fn place_after(at: Place, class: LineClass) -> Option<Place> {
+fn part_after(at: NumberPart, class: LineClass) -> Option<NumberPart> {
     match at {
-        Place::Start if has(PR | PO, class) => Some(Place::Affix),
-        Place::Start | Place::Affix if has(OP | HY, class) => Some(Place::Opening),
-        Place::Start | Place::Affix | Place::Opening if has(NU, class) => Some(Place::Digits),
-        Place::Digits if has(NU | SY | IS, class) => Some(Place::Digits),
-        Place::Digits if has(CL | CP, class) => Some(Place::Closing),
-        Place::Digits | Place::Closing if has(PR | PO, class) => Some(Place::End),
+        NumberPart::Start if has(PR | PO, class) => Some(NumberPart::Affix),
+        NumberPart::Start | NumberPart::Affix if has(OP | HY, class) => Some(NumberPart::Opening),
+        NumberPart::Start | NumberPart::Affix | NumberPart::Opening if has(NU, class) => Some(
+            NumberPart::Digits,
+        ),
+        NumberPart::Digits if has(NU | SY | IS, class) => Some(NumberPart::Digits),
+        NumberPart::Digits if has(CL | CP, class) => Some(NumberPart::Closing),
+        NumberPart::Digits | NumberPart::Closing if has(PR | PO, class) => Some(NumberPart::End),
         _ => None,
     }
 }
 
-fn is_number(at: Place) -> bool {
+fn is_number(at: NumberPart) -> bool {
     match at {
-        Place::Start | Place::Affix | Place::Opening => false,
-        Place::Digits | Place::Closing | Place::End => true,
+        NumberPart::Start | NumberPart::Affix | NumberPart::Opening => false,
+        NumberPart::Digits | NumberPart::Closing | NumberPart::End => true,
     }
 }

@@ -1,5 +1,5 @@
-//! Tests that, at odd levels, marks come after their bases with the option `reordernsm`, and before them
-//! without it.
+//! Tests that, at odd levels, nonspacing marks come after their bases with the option `reordernsm`, and
+//! before them without it.
 use super::lay_out;
 use super::printed::{ALL, PLAIN, UNMIRRORED, are_printed};
 use crate::files::{FILES, engine};
@@ -38,8 +38,8 @@ type Row = (
     &'static [u32],
 );
 
-// Texts, and their visual order with the option. The last two have a mark at a different level from its base,
-// and a mark after a space at the end of the line.
+// Texts, and their visual order with the option. The last two have a nonspacing mark at a different level
+// from its base, and a nonspacing mark after a space at the end of the line.
 static READ_ROWS: [Row; 7] = [
     (
         "\u{5D0}\u{300}\u{5D1}",
@@ -119,7 +119,7 @@ static REVERSED_ROWS: [Row; 5] = [
     ),
 ];
 
-// At an even level, a mark is after its base with or without the option.
+// At an even level, a nonspacing mark is after its base with or without the option.
 static RTL_ROWS: [Row; 1] = [("a\u{300}", &['a', '\u{300}'], &[0, 1], &[0, 1])];
 
 static POINT_ROWS: [Row; 1] = [(

@@ -24,8 +24,8 @@ type SpanRow<'a> = (&'a str, u16, [usize; 3], &'a [(usize, usize)]);
 
 const MIXED: &str = "abc \u{5d0}\u{5d1}\u{5d2} def";
 
-// In the last row but one, the range of a space and a letter covers one interval: the mark that is visually
-// between them has no columns. In the last row, the range of a mark covers no interval.
+// In the last row but one, the range of a space and a letter covers one interval: the nonspacing mark that is
+// visually between them has no columns. In the last row, the range of a nonspacing mark covers no interval.
 static SPANS: [SpanRow<'_>; 15] = [
     (MIXED, 80, [0, 2, 6], &[(2, 4), (5, 7)]),
     (MIXED, 80, [0, 3, 5], &[(3, 4), (6, 7)]),

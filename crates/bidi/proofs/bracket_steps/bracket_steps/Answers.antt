@@ -1,7 +1,7 @@
 use Rattle.std.proofs.Common.{◌≡◌, ℕ, List, Option, length, map, sym, ap, ap₂, ◌∙◌}
 use Rattle.std.specs.List.{range_with_len}
 use Rattle.std.proofs.lemmas.List.FromFn.{length-map-range_with_len}
-use Rattle.ucd.specs.Classes.{class_at, is_mark}
+use Rattle.ucd.specs.Classes.{class_at, is_nonspacing_mark}
 use Rattle.ucd.specs.declared.bidi_class.BidiClass.{BidiClass}
 use Rattle.bidi.specs.BracketPasses.{closer_by, decision_by, step_by, unpaired_by}
 use Rattle.bidi.specs.BracketSteps.{resolved_before}
@@ -34,7 +34,7 @@ returns c look text are =
     let explicit = c.args.explicit.now in
     let types = c.args.types.now in
     let kinds = c.args.kinds.now in
-    let marks = map is_mark explicit in
+    let marks = map is_nonspacing_mark explicit in
     let openers = c.find_partners.new.openers.items in
     let partners = c.find_partners.new.partners.items in
     let full = c.in_ok-full.full in

@@ -3,9 +3,9 @@ use Rattle.std.proofs.lemmas.Grind.{common_steps}
 use Rattle.std.proofs.lemmas.List.{with_items_is}
 use Rattle.bidi.specs.BracketPasses.{paired_by}
 use Rattle.bidi.specs.Closers.{left_by, newest}
-use Rattle.bidi.proofs.BracketTypeLemmas.{look_for, text_for, told}
+use Rattle.bidi.proofs.BracketTypeLemmas.{look_for, text_for, looked_up}
 use Rattle.bidi.proofs.PartnerLemmas.{Pairing-close, Pairing-end, Pairing-full, Pairing-open, Pairing-other, Pairing-start, index-below, length-paired, length-partners, none_yet}
-use Rattle.bidi.proofs.ToldLemmas.{closes_by, opens_by, told_of}
+use Rattle.bidi.proofs.LookedUpLemmas.{closes_by, opens_by, looked_up_of}
 use Rattle.bidi.proofs.bracket_steps.find_partners.Goals as goal
 use Rattle.bidi.proofs.bracket_steps.find_partners.Goals.{in-Opening+else-len-ge-MAX_OPENERS+in_ok-push-in-Opening, in-Closing, in-Other}
 
@@ -17,7 +17,7 @@ loop-place-init c look text are =
 pub pair_up-requires-clause-indices : goal.pair_up-requires-clause-indices
 pair_up-requires-clause-indices c = λ m h.
     let kinds = c.args.kinds.now in
-    let now = c.loop-place.invariant (look_for kinds) (text_for kinds) (told kinds) in
+    let now = c.loop-place.invariant (look_for kinds) (text_for kinds) (looked_up kinds) in
     let below = index-below (look_for kinds) (text_for kinds) c.args.types.now c.loop-place.place m c.loop-place.openers.items c.loop-place.partners.items now h in
     let size = length-partners (look_for kinds) (text_for kinds) c.args.types.now c.loop-place.place c.loop-place.openers.items c.loop-place.partners.items now in
     let same = ap length c.deref_mut.ensures.value in
@@ -27,7 +27,7 @@ pub returns-then-len-ge-MAX_OPENERS-clause-found : goal.returns-then-len-ge-MAX_
 returns-then-len-ge-MAX_OPENERS-clause-found c look text are =
     let types = c.args.types.now in
     let k = c.loop-place.place in
-    let here = told_of look text c.args.kinds.now types k c.bracket_in.result c.loop-place-test.true c.requires are c.bracket_in.ensures in
+    let here = looked_up_of look text c.args.kinds.now types k c.bracket_in.result c.loop-place-test.true c.requires are c.bracket_in.ensures in
     Pairing-full look text types k c.loop-place.openers.items c.loop-place.partners.items c.loop-place-test.true (here.opens ∙ ap opens_by c.in-Opening.is)
     (omega arith) (c.loop-place.invariant look text are)
 
@@ -43,7 +43,7 @@ loop-place-preserved c look text are =
     let openers = c.loop-place.openers.items in
     let partners = c.loop-place.partners.items in
     let now = c.loop-place.invariant look text are in
-    let here = told_of look text c.args.kinds.now types k c.bracket_in.result c.loop-place-test.true c.requires are c.bracket_in.ensures in
+    let here = looked_up_of look text c.args.kinds.now types k c.bracket_in.result c.loop-place-test.true c.requires are c.bracket_in.ensures in
     elim c.match-bracket_in.branch [
       | in-Opening+else-len-ge-MAX_OPENERS+in_ok-push-in-Opening w ↦
           let b = here.pair w.in-Opening.pair w.in-Opening.is in

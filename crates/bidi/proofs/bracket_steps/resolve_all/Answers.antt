@@ -1,7 +1,7 @@
 use Rattle.std.proofs.Common.{ℕ, ◌++◌, ◌∷◌, [], map, sym, ap, ◌∙◌, arith}
 use Rattle.std.specs.List.{range_with_len}
 use Rattle.std.proofs.lemmas.List.FromFn.{map-range_with_len_more}
-use Rattle.ucd.specs.Classes.{is_mark}
+use Rattle.ucd.specs.Classes.{is_nonspacing_mark}
 use Rattle.bidi.specs.BracketPasses.{closer_by, decision_by}
 use Rattle.bidi.specs.BracketSteps.{resolved_before}
 use Rattle.bidi.specs.Brackets.{pair_step}
@@ -14,7 +14,7 @@ pub loop-k-preserved : goal.loop-k-preserved
 loop-k-preserved c =
     let embedding = c.args.embedding in
     let sos = c.args.sos in
-    let marks = map is_mark c.args.explicit.now in
+    let marks = map is_nonspacing_mark c.args.explicit.now in
     let closer : ℕ → _ = closer_by c.args.partners.now in
     let old = c.args.types.now in
     let k = c.loop-k.k in

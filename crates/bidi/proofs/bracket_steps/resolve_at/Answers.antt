@@ -1,6 +1,6 @@
 use Rattle.std.proofs.Common.{◌≡◌, ◌<◌, ◌&&◌, nat_lt, Some, None, length, map, get_or, sym, ap, ◌∙◌, arith}
 use Rattle.std.proofs.lemmas.Bool.{and_from, cond-true, lt-ltb}
-use Rattle.ucd.specs.Classes.{is_mark}
+use Rattle.ucd.specs.Classes.{is_nonspacing_mark}
 use Rattle.bidi.specs.BracketPasses.{closer_by, direction_in}
 use Rattle.bidi.specs.BracketSteps.{pair_case}
 use Rattle.bidi.specs.Brackets.{pair_step, set_pair}
@@ -11,7 +11,7 @@ use Rattle.bidi.proofs.bracket_steps.resolve_at.Goals as goal
 pub returns-then-partner-types-clause-types : goal.returns-then-partner-types-clause-types
 returns-then-partner-types-clause-types c =
     let types = c.args.types.now in
-    let marks = map is_mark c.args.explicit.now in
+    let marks = map is_nonspacing_mark c.args.explicit.now in
     let k = c.args.k in
     let p = get_or c.args.partners.now k 0 in
     let len = length c.args.partners.now in

@@ -12,10 +12,10 @@ use Rattle.bidi.specs.BracketTypes.{bracket_at, bracket_types, is_bracket}
 use Rattle.bidi.specs.Closers.{AreNested, closed_by, closers_by, closers_of, left_by, newest, pair_of}
 use Rattle.bidi.specs.Brackets.{canonical, pairs_of}
 use Rattle.bidi.specs.declared.brackets.BracketPair.{BracketPair}
-use Rattle.bidi.proofs.BracketTypeLemmas.{look_for, text_for, told}
+use Rattle.bidi.proofs.BracketTypeLemmas.{look_for, text_for, looked_up}
 use Rattle.bidi.proofs.ClosersLemmas.{AreFound, AreFound-start, AreInOrder-closed, AreInOrder-push, AreInOrder-skip, closers_by-closed, closers_by-push, indices-closed, indices-push, length-closed, places_in, places_in-closed, places_in-push}
 use Rattle.bidi.proofs.PairLemmas.{Walks, Walks-other, Walks-skip, Walks-open, Walks-close, all-full, all-end, closed_at, greatest_found, nested, before}
-use Rattle.bidi.proofs.ToldLemmas.{Told, told_of, other_told, opens_by, closes_by}
+use Rattle.bidi.proofs.LookedUpLemmas.{LookedUp, looked_up_of, other_looked_up, opens_by, closes_by}
 use Rattle.bidi.proofs.brackets.find_pairs.Goals as goal
 use Rattle.bidi.proofs.brackets.find_pairs.Goals.{After-next_bracket-place-in-loop-place, in-Opening+else-len-ge-MAX_OPENERS+in_ok-push-in-Opening+in_ok-push-in-Opening-2, in-Closing, in-Other}
 
@@ -29,8 +29,8 @@ module _ (kinds : List BracketType) (types : List BidiClass) (size : length kind
     indices = now.indices;
     none = now.none;
     walks = λ look text are. Walks-skip look text types (j - k) k j (places_in pairs openers) openers (closers_by pairs (length types)) (omega arith)
-        (λ m above below. (other_told look text kinds types m (omega arith) size are (none m above below)).opens)
-        (λ m above below. (other_told look text kinds types m (omega arith) size are (none m above below)).closes) (now.walks look text are);
+        (λ m above below. (other_looked_up look text kinds types m (omega arith) size are (none m above below)).opens)
+        (λ m above below. (other_looked_up look text kinds types m (omega arith) size are (none m above below)).closes) (now.walks look text are);
   }
 
   -- the lemmas on steps end in a state after `suc k` characters, and the program in one after `k + 1`
@@ -40,8 +40,8 @@ module _ (kinds : List BracketType) (types : List BidiClass) (size : length kind
 
   module _ (k : ℕ) (answer : BracketType) (openers : List Opener) (pairs : List BracketPair) (has_pairs : Bool) (within : k < length types)
       (is : answer ≡ (if is_other (get_or types k L) then get_or kinds k Other else Other)) (now : AreFound kinds types k openers pairs has_pairs) where
-    told_at : (look : ℕ → Option Bracket) (text : List ℕ) → kinds ≡ bracket_types look text → Told look text types k answer
-    told_at look text are = told_of look text kinds types k answer within size are is
+    looked_up_at : (look : ℕ → Option Bracket) (text : List ℕ) → kinds ≡ bracket_types look text → LookedUp look text types k answer
+    looked_up_at look text are = looked_up_of look text kinds types k answer within size are is
 
     AreFound-other : answer ≡ Other → AreFound kinds types (k + 1) openers pairs has_pairs
     AreFound-other other = record {
@@ -49,10 +49,10 @@ module _ (kinds : List BracketType) (types : List BidiClass) (size : length kind
       indices = now.indices;
       none = now.none;
       walks = λ look text are.
-          let told = told_at look text are in
+          let looked_up = looked_up_at look text are in
           next look text k (places_in pairs openers) openers (closers_by pairs (length types))
           (Walks-other look text types k (places_in pairs openers) openers (closers_by pairs (length types))
-          (told.opens ∙ ap opens_by other) (told.closes ∙ ap closes_by other) (now.walks look text are));
+          (looked_up.opens ∙ ap opens_by other) (looked_up.closes ∙ ap closes_by other) (now.walks look text are));
     }
 
     AreFound-open : (number : ℕ) → answer ≡ Opening number → length openers < 63
@@ -67,11 +67,11 @@ module _ (kinds : List BracketType) (types : List BidiClass) (size : length kind
           indices = indices-push pairs openers pair opener refl now.indices;
           none = λ e. same ∙ now.none e;
           walks = λ look text are.
-              let told = told_at look text are in
-              let b = told.pair number opening in
+              let looked_up = looked_up_at look text are in
+              let b = looked_up.pair number opening in
               let step = next look text k (places_in pairs openers ++ k ∷ []) (openers ++ opener ∷ []) (closers_by pairs (length types))
               (Walks-open look text types k (places_in pairs openers) openers (closers_by pairs (length types)) b.0 opener
-              (told.opens ∙ ap opens_by opening) b.1 b.2 room (now.walks look text are)) in
+              (looked_up.opens ∙ ap opens_by opening) b.1 b.2 room (now.walks look text are)) in
               subst (λ places. Walks look text types (k + 1) places (openers ++ opener ∷ []) (closers_by (pairs ++ pair ∷ []) (length types))) places
               (subst (λ closers. Walks look text types (k + 1) (places_in pairs openers ++ k ∷ []) (openers ++ opener ∷ []) closers) (sym same) step);
         }
@@ -92,10 +92,10 @@ module _ (kinds : List BracketType) (types : List BidiClass) (size : length kind
               let both = or_parts has_pairs result e in
               ap (λ o. closers_by (closed_by o openers pairs k) (length types)) (unmatched both.1) ∙ now.none both.0;
           walks = λ look text are.
-              let told = told_at look text are in
+              let looked_up = looked_up_at look text are in
               let step = next look text k (left_by found (places_in pairs openers)) left (closed_at found (places_in pairs openers) (closers_by pairs (length types)) k)
               (Walks-close look text types k (places_in pairs openers) openers (closers_by pairs (length types)) closer
-              (told.number closer closing) within (told.closes ∙ ap closes_by closing) (now.walks look text are)) in
+              (looked_up.number closer closing) within (looked_up.closes ∙ ap closes_by closing) (now.walks look text are)) in
               subst (λ places. Walks look text types (k + 1) places left (closers_by closed (length types))) places
               (subst (λ closers. Walks look text types (k + 1) (left_by found (places_in pairs openers)) left closers) (sym same) step);
         }
@@ -112,7 +112,7 @@ module _ (kinds : List BracketType) (types : List BidiClass) (size : length kind
   nested_by k openers pairs has_pairs within now =
       let look = look_for kinds in
       let text = text_for kinds in
-      subst (AreNested types) (sym (now.walks look text (told kinds)).found) (nested look text types k within)
+      subst (AreNested types) (sym (now.walks look text (looked_up kinds)).found) (nested look text types k within)
 
 pub loop-place-init : goal.loop-place-init
 loop-place-init c =
@@ -138,11 +138,11 @@ returns-then-len-ge-MAX_OPENERS-clause-pairs c look text are =
     let openers = c.loop-place.openers.items in
     let pairs = c.loop-place.pairs.items in
     let now = c.loop-place.invariant.found in
-    let told = told_at kinds types c.requires k c.bracket_in.result openers pairs c.loop-place.has_pairs c.loop-place-test.true c.bracket_in.ensures now look text are in
+    let looked_up = looked_up_at kinds types c.requires k c.bracket_in.result openers pairs c.loop-place.has_pairs c.loop-place-test.true c.bracket_in.ensures now look text are in
     let full : 63 ≤ length openers = omega arith in
     all_by kinds types c.requires k openers pairs c.loop-place.has_pairs now look text are
     (all-full look text types k (places_in pairs openers) openers (closers_by pairs (length types)) c.loop-place-test.true
-    (told.opens ∙ ap opens_by c.in-Opening.is) full (now.walks look text are))
+    (looked_up.opens ∙ ap opens_by c.in-Opening.is) full (now.walks look text are))
 
 pub returns-then-len-ge-MAX_OPENERS-clause-nested : goal.returns-then-len-ge-MAX_OPENERS-clause-nested
 returns-then-len-ge-MAX_OPENERS-clause-nested c =

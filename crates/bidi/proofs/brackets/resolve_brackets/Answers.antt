@@ -6,7 +6,7 @@ use Rattle.bidi.specs.Brackets.{context, is_other, pair_direction, pair_step, se
 use Rattle.bidi.specs.Resolving.{IsClear}
 use Rattle.bidi.specs.Weak.{is_left}
 use Rattle.bidi.specs.Closers.{AreNested, closer_in, closers_by}
-use Rattle.ucd.specs.Classes.{class_at, is_mark}
+use Rattle.ucd.specs.Classes.{class_at, is_nonspacing_mark}
 use Rattle.bidi.proofs.BracketLemmas.{Resolved, Resolved-start, Resolved-pair, Resolved-skip, unchanged, direction_is, IsClear-skip}
 use Rattle.bidi.proofs.ClosersLemmas.{IsItem, item-is, length-closers_by, none-before, opener_or, opener_or-end, opener_or-within}
 use Rattle.bidi.proofs.brackets.resolve_brackets.Goals as goal
@@ -50,14 +50,14 @@ module _ (embedding sos : BidiClass) (explicit old current : List BidiClass) (pa
       (λ m above below. item.free m (omega arith) below) after
 
   after_pair : (next : List BidiClass) → a < b → b < length old
-      → next ≡ set_pair (map is_mark explicit) current a b (pair_direction (is_left embedding) sos current a b)
+      → next ≡ set_pair (map is_nonspacing_mark explicit) current a b (pair_direction (is_left embedding) sos current a b)
       → Resolved embedding sos explicit (closers_by pairs (length old)) old next (opener_or pairs (i + 1) (length old))
   after_pair next order inside made =
       let closers = closers_by pairs (length old) in
       let size = length-closers_by pairs (length old) in
       let closer = item.closer in
       to_next next (Resolved-pair embedding sos explicit closers old current a now item.below sizes (omega arith) (omega arith) next
-      (made ∙ ap (λ k. set_pair (map is_mark explicit) current a k (pair_direction (is_left embedding) sos current a k)) (sym closer)))
+      (made ∙ ap (λ k. set_pair (map is_nonspacing_mark explicit) current a k (pair_direction (is_left embedding) sos current a k)) (sym closer)))
 
   after_none : length old ≤ b → Resolved embedding sos explicit (closers_by pairs (length old)) old current (opener_or pairs (i + 1) (length old))
   after_none outside =
@@ -141,7 +141,7 @@ loop-pair-preserved c =
           rw (w.types-is, w.same-is, w.other-is) (record {
             resolved = after_pair c.args.embedding c.args.sos c.args.explicit.now old current pairs i a b c.requires.explicit item c.loop-pair.invariant.resolved
                 w.set_pair.new.types (paired old pairs i a b c.requires.nested item) (omega (arith, w.if-closer-types.true, c.loop-pair.auto.types))
-                (w.set_pair.ensures ∙ ap (set_pair (map is_mark c.args.explicit.now) current a b) (w.pair_direction-direction.ensures
+                (w.set_pair.ensures ∙ ap (set_pair (map is_nonspacing_mark c.args.explicit.now) current a b) (w.pair_direction-direction.ensures
                 ∙ direction_is c.args.sos current a b left (is_left c.args.embedding) _ _ (context c.args.sos current a) c.is_left-left.ensures refl
                 w.stands_inside-has_same.ensures.value w.stands_inside-has_other.ensures.value));
             same = IsClear-next left before pairs len i a b _ item w.stands_inside-has_same.ensures.clear;
@@ -161,7 +161,7 @@ returns c =
     let old = c.args.types.now in
     let pairs = c.args.pairs.now in
     let len = length old in
-    let f = λ (types : List BidiClass) (a : ℕ). pair_step c.args.embedding c.args.sos (map is_mark c.args.explicit.now) types a (closer_in (closers_by pairs len) a) in
+    let f = λ (types : List BidiClass) (a : ℕ). pair_step c.args.embedding c.args.sos (map is_nonspacing_mark c.args.explicit.now) types a (closer_in (closers_by pairs len) a) in
     let end : opener_or pairs c.loop-pair.pair-index len ≡ len = opener_or-end pairs c.loop-pair.pair-index len c.loop-pair-test.false in
     let none : 0 ≡ len - opener_or pairs c.loop-pair.pair-index len = omega arith in
     ap (λ n. fold f c.loop-pair.types (range_with_len (opener_or pairs c.loop-pair.pair-index len) n)) none ∙ c.loop-pair.invariant.resolved.so_far

@@ -10,8 +10,8 @@ use Rattle.bidi.proofs.isolates.find_matches.Goals.{then-is_initiator+in_ok-push
 
 -- a test of the class read at k has the same result for `class_at`, whose default for a missing class is
 -- different
-told : (p : BidiClass → Bool) (classes : List BidiClass) (k : ℕ) (answer : Bool) → k < length classes → answer ≡ p (get_or classes k L) → p (class_at classes k) ≡ answer
-told p classes k answer within e = ap p (get_or_default classes k ON L within) ∙ sym e
+looked_up : (p : BidiClass → Bool) (classes : List BidiClass) (k : ℕ) (answer : Bool) → k < length classes → answer ≡ p (get_or classes k L) → p (class_at classes k) ≡ answer
+looked_up p classes k answer within e = ap p (get_or_default classes k ON L within) ∙ sym e
 
 -- the list of matches keeps its length
 length_either : (stack found : List ℕ) (k : ℕ) → length (if length stack == 0 then found else set found (get_or stack (length stack - 1) 0) k) ≡ length found
@@ -42,7 +42,7 @@ loop-at-preserved c =
       | then-is_initiator+in_ok-push w ↦
           let items : c.if-is_initiator.pending.items ≡ c.loop-at.pending.items ++ c.loop-at.at ∷ [] = ap (λ v. v.items) w.pending-is ∙ w.in_ok-push.ensures.items in
           rw (items, w.found-is) (Opens-up c.args.classes.now c.loop-at.at c.loop-at.pending.items c.loop-at.found.items c.loop-at-test.true
-          (told is_initiator c.args.classes.now c.loop-at.at true c.loop-at-test.true w.if-is_initiator.ensures) c.loop-at.invariant)
+          (looked_up is_initiator c.args.classes.now c.loop-at.at true c.loop-at-test.true w.if-is_initiator.ensures) c.loop-at.invariant)
       | else-is_initiator+then-is_pdi w ↦
           let rest : c.if-is_initiator.pending.items ≡ take (length c.loop-at.pending.items - 1) c.loop-at.pending.items = ap (λ v. v.items) w.pending-is ∙ w.close.ensures.rest in
           let after : c.if-is_initiator.found.items
@@ -55,12 +55,12 @@ loop-at-preserved c =
           ∙ length_either c.loop-at.pending.items c.loop-at.found.items c.loop-at.at ∙ sym (ap length now)
           ∙ w.deref_mut.ensures.len) ∙ e in
           closed_one c.args.classes.now c.loop-at.at c.loop-at.pending.items c.loop-at.found.items c.if-is_initiator.pending.items c.if-is_initiator.found.items c.loop-at-test.true
-          (told is_initiator c.args.classes.now c.loop-at.at false c.loop-at-test.true w.if-is_initiator.ensures)
-          (told is_pdi c.args.classes.now c.loop-at.at true c.loop-at-test.true w.if-is_pdi.ensures) c.loop-at.invariant rest after
+          (looked_up is_initiator c.args.classes.now c.loop-at.at false c.loop-at-test.true w.if-is_initiator.ensures)
+          (looked_up is_pdi c.args.classes.now c.loop-at.at true c.loop-at-test.true w.if-is_pdi.ensures) c.loop-at.invariant rest after
       | else-is_initiator+else-is_pdi w ↦
           rw (w.found-is, w.pending-is) (Opens-flat c.args.classes.now c.loop-at.at c.loop-at.pending.items c.loop-at.found.items c.loop-at-test.true
-          (told is_initiator c.args.classes.now c.loop-at.at false c.loop-at-test.true w.if-is_initiator.ensures)
-          (told is_pdi c.args.classes.now c.loop-at.at false c.loop-at-test.true w.if-is_pdi.ensures) c.loop-at.invariant)
+          (looked_up is_initiator c.args.classes.now c.loop-at.at false c.loop-at-test.true w.if-is_initiator.ensures)
+          (looked_up is_pdi c.args.classes.now c.loop-at.at false c.loop-at-test.true w.if-is_pdi.ensures) c.loop-at.invariant)
     ]
 
 pub returns-clause-matches : goal.returns-clause-matches

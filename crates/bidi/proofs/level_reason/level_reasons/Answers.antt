@@ -12,7 +12,7 @@ use Rattle.bidi.specs.Isolates.{match_at, matches_of}
 use Rattle.bidi.specs.LevelReasons.{index_of, level_reason, levels_in, resolved_in}
 use Rattle.bidi.specs.Levels.{levels_of}
 use Rattle.bidi.specs.Reasons.{explicit_step, explicit_steps, sequence_of, sequences_by}
-use Rattle.bidi.specs.Sequences.{stayed}
+use Rattle.bidi.specs.Sequences.{retained}
 use Rattle.bidi.proofs.LengthLemmas.{length-directed, length-levels_of}
 use Rattle.bidi.proofs.LevelReasonLemmas.{levels_listed, no_levels, no_reasons}
 use Rattle.bidi.proofs.level_reason.level_reasons.Goals as goal
@@ -55,8 +55,8 @@ returns-clause-reasons c =
     let own : cls ≡ acting = c.deref-5.ensures.value ∙ made.classes_are in
     let whole : length text ≡ length cls = sym (ap length own ∙ length-directed classes ∙ length-map text (class_of tables)) in
     let matches : c.deref.result.now ≡ matches_of cls = c.deref.ensures.value ∙ made.matches_are ∙ ap matches_of (sym own) in
-    let kept : c.deref-2.result.now ≡ stayed cls = c.deref-2.ensures.value ∙ made.kept_are ∙ ap stayed (sym own) in
-    let kept_here : c.deref-3.result.now ≡ stayed cls = c.deref-3.ensures.value ∙ made.kept_are ∙ ap stayed (sym own) in
+    let kept : c.deref-2.result.now ≡ retained cls = c.deref-2.ensures.value ∙ made.kept_are ∙ ap retained (sym own) in
+    let kept_here : c.deref-3.result.now ≡ retained cls = c.deref-3.ensures.value ∙ made.kept_are ∙ ap retained (sym own) in
     let runs : map sequence_of c.deref-4.result.now ≡ sequences = ap (map sequence_of) c.deref-4.ensures.value ∙ made.sequences_are in
     let levels : c.deref-8.result.now ≡ levels_of tables text base = c.deref-8.ensures.value ∙ made.levels_are in
     c.in_ok-list.ensures level sequences record {

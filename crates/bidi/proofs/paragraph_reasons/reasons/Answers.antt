@@ -6,7 +6,7 @@ use Rattle.bidi.specs.BracketTypes.{bracket_types}
 use Rattle.bidi.specs.Explicit.{directed}
 use Rattle.bidi.specs.Isolates.{matches_of}
 use Rattle.bidi.specs.Reasons.{explicit_steps, sequences_by}
-use Rattle.bidi.specs.Sequences.{stayed}
+use Rattle.bidi.specs.Sequences.{retained}
 use Rattle.bidi.proofs.paragraph_reasons.reasons.Goals as goal
 
 pub returns : goal.returns
@@ -24,7 +24,7 @@ returns c =
       classes_are = made.classes ∙ ap directed found;
       matches_are = made.matches ∙ ap (λ cs. matches_of (directed cs)) found;
       explicit_are = made.explicit ∙ ap₂ (λ l cs. explicit_steps l (directed cs)) level found;
-      kept_are = made.kept ∙ ap (λ cs. stayed (directed cs)) found;
+      kept_are = made.kept ∙ ap (λ cs. retained (directed cs)) found;
       sequences_are = made.sequences (bracket_of tables) text kinds ∙ ap₂ (λ l cs. sequences_by (bracket_of tables) text (directed cs) l) level found;
       levels_are = made.levels ∙ c.in_ok-levels.ensures.levels;
     }

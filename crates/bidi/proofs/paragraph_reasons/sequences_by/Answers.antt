@@ -6,8 +6,8 @@ use Rattle.bidi.specs.Explicit.{level_at}
 use Rattle.bidi.specs.Isolates.{matches_of}
 use Rattle.bidi.specs.Paragraphs.{AreBracketsOf}
 use Rattle.bidi.specs.Reasons.{all_sequences}
-use Rattle.bidi.specs.Sequences.{stayed}
-use Rattle.bidi.specs.Stayed.{HasAll, IsStayed}
+use Rattle.bidi.specs.Sequences.{retained}
+use Rattle.bidi.specs.Retained.{HasAll, IsRetained}
 use Rattle.bidi.proofs.BracketTypeLemmas.{types-kept}
 use Rattle.bidi.proofs.ExplicitLemmas.{kept_all}
 use Rattle.bidi.proofs.paragraph_reasons.sequences_by.Goals as goal
@@ -15,30 +15,30 @@ use Rattle.bidi.proofs.paragraph_reasons.sequences_by.Goals as goal
 pub all_sequences-requires-clause-paragraph : goal.all_sequences-requires-clause-paragraph
 all_sequences-requires-clause-paragraph c =
     let classes = c.args.classes.now in
-    let left = c.explicit.new.stayed in
-    let kept : IsStayed classes c.args.base left = c.in_ok-explicit.ensures in
+    let left = c.explicit.new.retained in
+    let kept : IsRetained classes c.args.base left = c.in_ok-explicit.ensures in
     let all : HasAll left = kept_all classes c.args.base left c.requires.low kept in
     record {
-      stayed = all;
+      retained = all;
       matches = c.deref-3.ensures.value ∙ c.in_ok-find_matches.ensures.matches ∙ ap matches_of c.deref.ensures.value;
       found = ap length c.deref-3.ensures.value ∙ c.in_ok-find_matches.ensures.length ∙ ap length c.deref.ensures.value ∙ all.classes;
-      brackets = λ any. ap length (c.deref-2.ensures.value ∙ c.in_ok-stayed_brackets.ensures) ∙ length-map (stayed classes) (bracket_at c.args.kinds.now)
-          ∙ sym (ap length kept.levels_are ∙ length-map (stayed classes) (level_at c.args.base classes));
+      brackets = λ any. ap length (c.deref-2.ensures.value ∙ c.in_ok-retained_brackets.ensures) ∙ length-map (retained classes) (bracket_at c.args.kinds.now)
+          ∙ sym (ap length kept.levels_are ∙ length-map (retained classes) (level_at c.args.base classes));
     }
 
 pub returns : goal.returns
 returns c look text are =
     let classes = c.args.classes.now in
     let base = c.args.base in
-    let places = stayed classes in
-    let left = c.explicit.new.stayed in
-    let kept : IsStayed classes base left = c.in_ok-explicit.ensures in
+    let places = retained classes in
+    let left = c.explicit.new.retained in
+    let kept : IsRetained classes base left = c.in_ok-explicit.ensures in
     let sized : length text ≡ length classes = sym (ap length are ∙ length-map text (λ k. type_by (look k) k)) ∙ c.requires.kinds in
     let part = map (slice_index text) places in
     let test : ℕ → Bool = λ k. not (is_removed (class_at classes k)) in
     let parts : AreBracketsOf (record { types = c.deref-2.result; has_any = true }) (length left.levels.items) look part = record {
       size = length-map places (slice_index text) ∙ sym (ap length kept.levels_are ∙ length-map places (level_at base classes));
-      types = λ any. c.deref-2.ensures.value ∙ c.in_ok-stayed_brackets.ensures ∙ ap (λ types. map (bracket_at types) places) are
+      types = λ any. c.deref-2.ensures.value ∙ c.in_ok-retained_brackets.ensures ∙ ap (λ types. map (bracket_at types) places) are
           ∙ sym (types-kept look text test 0 (length classes) (omega (arith, sized)));
       none = λ none. absurd (cc);
     } in

@@ -9,9 +9,9 @@ use Rattle.bidi.proofs.sequence_reasons.all_sequences.Goals as goal
 pub returns : goal.returns
 returns c look text are =
     let p = c.args.paragraph.now in
-    let levels = p.stayed.now.levels.items in
-    let classes = p.stayed.now.classes.items in
-    let each : List ℕ → Sequence = sequence_reasons look p.base text classes levels p.stayed.now.types.items in
+    let levels = p.retained.now.levels.items in
+    let classes = p.retained.now.classes.items in
+    let each : List ℕ → Sequence = sequence_reasons look p.base text classes levels p.retained.now.types.items in
     let starts = c.in_ok-starts.starts.items in
     let found : map (sequence_at classes levels) starts ≡ sequences classes levels =
     ap₂ (λ cs ls. map (sequence_at cs ls) starts) (sym c.deref.ensures.value) (sym c.deref-2.ensures.value) ∙ c.in_ok-starts.ensures.sequences

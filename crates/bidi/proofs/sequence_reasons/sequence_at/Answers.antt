@@ -17,9 +17,9 @@ made places level sos eos steps = record { places = places; level = level; sos =
 pub returns : goal.returns
 returns c look text are =
     let p = c.args.paragraph.now in
-    let levels = p.stayed.now.levels.items in
-    let classes = p.stayed.now.classes.items in
-    let explicit = p.stayed.now.types.items in
+    let levels = p.retained.now.levels.items in
+    let classes = p.retained.now.classes.items in
+    let explicit = p.retained.now.types.items in
     let sequence = sequence_in p c.args.start in
     let sides = c.sides_of-sides.result in
     let found = c.gather.new.places.items in

@@ -6,7 +6,7 @@ use Rattle.bidi.specs.Isolates.{match_at}
 use Rattle.bidi.specs.Runs.{IsRunEnd, next_start, sequence_at}
 use Rattle.bidi.specs.Sequences.{sequences}
 use Rattle.bidi.proofs.RunLemmas.{last_match, match_at-above, next_start-within}
-use Rattle.bidi.proofs.LevelLemmas.{Adds-start, Adds-next, Adds-end, marked-is, length-marked}
+use Rattle.bidi.proofs.LevelLemmas.{Adds-start, Adds-next, Adds-end, flagged-is, length-flagged}
 use Rattle.bidi.proofs.SequenceStartLemmas.{append_one, appended, keeps_no_size, no_size, one_within}
 use Rattle.bidi.proofs.sequence_starts.push_starts.Goals as goal
 use Rattle.bidi.proofs.sequence_starts.push_starts.Goals.{then-not-continued-start+in_ok-push, else-not-continued-start}
@@ -18,7 +18,7 @@ loop-start-init c =
     rw c.requires.none (
       Adds-start append_one no_size keeps_no_size [] (sequences classes levels) classes levels (appended [] (sequences classes levels)) c.args.continued.now
           (ap length c.requires.continued ∙ length-replicate (length levels) false)
-          (λ j within. ap (λ marks. get_or marks j false) c.requires.continued ∙ get_or-replicate (length levels) j false false within),
+          (λ j within. ap (λ list. get_or list j false) c.requires.continued ∙ get_or-replicate (length levels) j false false within),
       λ k within. absurd (omega (arith, within)),
     )
 
@@ -34,9 +34,9 @@ in_list : (levels : List ℕ) (m : ℕ) (next : Option ℕ) → next ≡ next_st
 in_list levels m None e = tt
 in_list levels m (Some place) e = (next_start-within levels m place (sym e)).1
 
-pub mark-requires : goal.mark-requires
-mark-requires c =
-    rw c.loop-start.invariant.0.marks (in_list c.args.levels.now (get_or c.args.matches.now (c.run_end-end.result - 1) 0) c.next_run.result c.next_run.ensures)
+pub set_flag-requires : goal.set_flag-requires
+set_flag-requires c =
+    rw c.loop-start.invariant.0.flags_len (in_list c.args.levels.now (get_or c.args.matches.now (c.run_end-end.result - 1) 0) c.next_run.result c.next_run.ensures)
 
 pub loop-start-preserved : goal.loop-start-preserved
 loop-start-preserved c =
@@ -69,10 +69,10 @@ loop-start-preserved c =
       | else-not-continued-start w ↦ rw w.starts-is c.loop-start.invariant.1
     ] in (
       Adds-next append_one no_size keeps_no_size [] (sequences classes levels) classes levels c.requires.length start end flags
-          c.mark.new.continued done (map (sequence_at classes levels) c.if-not-continued-start.starts.items) run now added
-          (ap length c.mark.ensures ∙ length-marked flags c.next_run.result ∙ now.marks)
-          (λ j within edge. ap (λ marks. get_or marks j false) c.mark.ensures
-          ∙ marked-is levels (match_at classes (end - 1)) j flags c.next_run.result next now.marks (omega arith) within edge),
+          c.set_flag.new.continued done (map (sequence_at classes levels) c.if-not-continued-start.starts.items) run now added
+          (ap length c.set_flag.ensures ∙ length-flagged flags c.next_run.result ∙ now.flags_len)
+          (λ j within edge. ap (λ list. get_or list j false) c.set_flag.ensures
+          ∙ flagged-is levels (match_at classes (end - 1)) j flags c.next_run.result next now.flags_len (omega arith) within edge),
       inside,
     )
 

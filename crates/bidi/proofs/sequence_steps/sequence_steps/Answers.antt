@@ -6,7 +6,7 @@ use Rattle.bidi.specs.BracketSteps.{bracket_step, bracket_steps}
 use Rattle.bidi.specs.Reasons.{levels_in, neutral_steps, numbered, sequence_step}
 use Rattle.bidi.specs.Sequences.{direction}
 use Rattle.bidi.specs.Weak.{weak}
-use Rattle.bidi.proofs.BracketTypeLemmas.{look_for, text_for, told}
+use Rattle.bidi.proofs.BracketTypeLemmas.{look_for, text_for, looked_up}
 use Rattle.bidi.proofs.SequenceStepLemmas.{length-neutral_steps, steps_end}
 use Rattle.bidi.proofs.FlatLemmas.{length-weak}
 use Rattle.bidi.proofs.sequence_steps.sequence_steps.Goals as goal
@@ -36,7 +36,7 @@ sized c =
 pub gather_steps-requires-clause-brackets : goal.gather_steps-requires-clause-brackets
 gather_steps-requires-clause-brackets c =
     let kinds = c.args.kinds.now in
-    ap length (c.deref-5.ensures.value ∙ c.in_ok-brackets.ensures (look_for kinds) (text_for kinds) (told kinds))
+    ap length (c.deref-5.ensures.value ∙ c.in_ok-brackets.ensures (look_for kinds) (text_for kinds) (looked_up kinds))
     ∙ length-map-range_with_len _ 0 (length c.deref-2.result.now)
     ∙ ap length c.deref-2.ensures.value ∙ sym (ap length c.deref.ensures.value)
     ∙ sym (sized c)

@@ -2,7 +2,7 @@ use Rattle.std.proofs.Common.{[], List, length, map, sym, ap, ap₂, ◌∙◌}
 use Rattle.std.proofs.lemmas.Bool.{eqb-true}
 use Rattle.std.proofs.lemmas.List.{length-map}
 use Rattle.ucd.specs.declared.version.Version.{Version}
-use Rattle.breaks.specs.Bases.{Base, bases_of}
+use Rattle.breaks.specs.Bases.{BaseCharacter, bases_of}
 use Rattle.breaks.specs.Marks.{marks_after, marks_of}
 use Rattle.breaks.specs.Reasons.{names, reasons_after, reasons_of}
 use Rattle.breaks.specs.Rules.{rules}
@@ -16,14 +16,14 @@ unfolding marks_of
 reasons_by-requires-clause-marks c =
     let bases = ap (map base_in) c.deref-3.ensures.value ∙ c.in_ok-bases.ensures ∙ ap (λ l. bases_of (map character_in l)) c.deref.ensures.value ∙ ap bases_of c.in_ok-characters.ensures in
     c.deref-5.ensures.value ∙ c.in_ok-marks.ensures.marks
-    ∙ ap₂ (λ (v : Version) (b : List Base). marks_after (rules v c.args.whole_numbers) [] b) (sym c.version.ensures) (sym bases)
+    ∙ ap₂ (λ (v : Version) (b : List BaseCharacter). marks_after (rules v c.args.whole_numbers) [] b) (sym c.version.ensures) (sym bases)
 
 pub returns-clause-reasons : goal.returns-clause-reasons
 unfolding reasons_of
 returns-clause-reasons c =
     let bases = ap (map base_in) c.deref-3.ensures.value ∙ c.in_ok-bases.ensures ∙ ap (λ l. bases_of (map character_in l)) c.deref.ensures.value ∙ ap bases_of c.in_ok-characters.ensures in
     c.in_ok-list.ensures
-    ∙ ap₂ (λ (v : Version) (b : List Base). reasons_after (names v c.args.whole_numbers) (rules v c.args.whole_numbers) [] b) c.version.ensures bases
+    ∙ ap₂ (λ (v : Version) (b : List BaseCharacter). reasons_after (names v c.args.whole_numbers) (rules v c.args.whole_numbers) [] b) c.version.ensures bases
 
 pub returns-clause-marks : goal.returns-clause-marks
 returns-clause-marks c =

@@ -1,6 +1,6 @@
 use Rattle.std.proofs.Common.{◌≡◌, ◌+◌, ◌-◌, [], ◌∷◌, ◌++◌, List, drop, get_or, length, map, sym, ap, ap₂, ◌∙◌, arith}
 use Rattle.std.proofs.lemmas.List.{drop-map, length-map}
-use Rattle.breaks.specs.Bases.{Base}
+use Rattle.breaks.specs.Bases.{BaseCharacter}
 use Rattle.breaks.specs.Marks.{marks_after}
 use Rattle.breaks.specs.Reasons.{base_reasons, chars_in, names, reasons_after}
 use Rattle.breaks.specs.Rules.{mark_by, rules}
@@ -67,7 +67,7 @@ push_base-requires-clause-mark c =
     let start : c.len-start.result ≡ length c.loop-k.list.items = omega (arith, c.len-start.ensures) in
     ap (λ n. get_or marks (n + length x.attached.now) Never) start
     ∙ mark_here all k x c.loop-k-test.true here rows marks (length c.loop-k.list.items) so_far Never
-    ∙ sym (ap₂ (λ (v a : List Base). mark_by rows v a) now after)
+    ∙ sym (ap₂ (λ (v a : List BaseCharacter). mark_by rows v a) now after)
 
 pub loop-k-preserved : goal.loop-k-preserved
 loop-k-preserved c =
@@ -85,13 +85,13 @@ loop-k-preserved c =
     let before = c.loop-k.invariant.0 in
     let now = c.next-before.ensures ∙ ap (map base_in) (c.split_at.ensures.back ∙ ap (drop (length all - k - 1)) c.requires.reversed) ∙ nearest all k x below here in
     let after = ap (map base_in) c.split_at-in-loop-k.ensures.back ∙ sym (drop-map base_in (k + 1) all) in
-    let items = c.in_ok-push_base.ensures ∙ ap₂ (λ (v a : List Base). list ++ base_reasons named rows (base_in x) v a) (ap rest now) after in
+    let items = c.in_ok-push_base.ensures ∙ ap₂ (λ (v a : List BaseCharacter). list ++ base_reasons named rows (base_in x) v a) (ap rest now) after in
     let size = chars_step all k x below here named rows list (c.loop-k.invariant.1 ∙ ap chars_in before) in
     let so_far = ap (λ b. list ++ reasons_after named rows b left) (sym before) ∙ c.loop-k.invariant.2 in
     let marks = c.loop-k.invariant.3 ∙ ap (λ b. marks_after rows b left) before in
     let n : length c.push_base.new.list.items ≡ length list + (length x.attached.now + 1) = omega (arith, ap length items, size, c.loop-k.invariant.1, ap chars_in before, length-map x.attached.now character_in) in (
       now ∙ sym (next_before all k x below here),
       ap length items ∙ size ∙ ap chars_in (sym now),
-      ap₂ (λ (l : List Reason) (v : List Base). l ++ reasons_after named rows v behind) items now ∙ reasons_step all k x below here named rows list total so_far,
+      ap₂ (λ (l : List Reason) (v : List BaseCharacter). l ++ reasons_after named rows v behind) items now ∙ reasons_step all k x below here named rows list total so_far,
       marks_step all k x below here rows c.args.marks.now (length list) marks (length c.push_base.new.list.items) n ∙ ap (λ v. marks_after rows v behind) (sym now),
     )

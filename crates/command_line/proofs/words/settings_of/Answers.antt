@@ -17,17 +17,17 @@ texts_or_none None none empty = ap (map (λ s. s.now)) empty
 texts_or_none (Some s) none empty = refl
 
 -- the checks that `--script` is used with exactly one text, and `--queries` only with `--script`
-some_told : (o : Option (Bor Text)) → is_some (option_map (λ s. s.now) o) ≡ is_some o
-some_told None = refl
-some_told (Some s) = refl
+is_some_now : (o : Option (Bor Text)) → is_some (option_map (λ s. s.now) o) ≡ is_some o
+is_some_now None = refl
+is_some_now (Some s) = refl
 
 script_one : (script : Option (Bor Text)) (n : ℕ) (rows : List Row) → option_map (λ s. s.now) script
     ≡ first_of (codes "script") rows → length (texts_of rows) ≡ n → script_fits rows ≡ fits_script (is_some script) n
-script_one script n rows told texts = ap₂ fits_script (ap is_some (sym told) ∙ some_told script) texts
+script_one script n rows script_is texts = ap₂ fits_script (ap is_some (sym script_is) ∙ is_some_now script) texts
 
-queries_told : (queries : Bool) (script : Option (Bor Text)) (rows : List Row) → option_map (λ s. s.now) script ≡ first_of (codes "script") rows → queries ≡ is_given (codes "queries") rows
+queries_checked : (queries : Bool) (script : Option (Bor Text)) (rows : List Row) → option_map (λ s. s.now) script ≡ first_of (codes "script") rows → queries ≡ is_given (codes "queries") rows
     → queries_fit rows ≡ fits_queries queries (is_some script)
-queries_told queries script rows told is = ap₂ fits_queries (sym is) (ap is_some (sym told) ∙ some_told script)
+queries_checked queries script rows script_is is = ap₂ fits_queries (sym is) (ap is_some (sym script_is) ∙ is_some_now script)
 
 pub unreachable-requires : goal.unreachable-requires
 unreachable-requires c =
@@ -94,7 +94,7 @@ returns-clause-ok c = λ words m.
       script = script;
       queries = c.is_set-queries.ensures ∙ given (codes "queries");
       files = ap (map (λ s. s.now)) c.in-Ok.ensures.items ∙ texts;
-      asked = queries_told c.is_set-queries.result c.get_str-script.result (matches_of program _) script (c.is_set-queries.ensures ∙ given (codes "queries")) ∙ sym c.fits_queries.ensures ∙ asks;
+      asked = queries_checked c.is_set-queries.result c.get_str-script.result (matches_of program _) script (c.is_set-queries.ensures ∙ given (codes "queries")) ∙ sym c.fits_queries.ensures ∙ asks;
       one = script_one c.get_str-script.result (length c.unwrap_or-texts.result.now) (matches_of program _) script
           (omega (arith, ap length texts, length-map c.unwrap_or-texts.result.now (λ (s : Bor Text). s.now)))
           ∙ sym c.fits_script.ensures ∙ fits;
@@ -140,7 +140,7 @@ returns-then-not-fits_queries-clause-err c = λ words m.
       script_one c.get_str-script.result (length c.unwrap_or-texts.result.now) (matches_of program _) script
           (omega (arith, ap length texts, length-map c.unwrap_or-texts.result.now (λ (s : Bor Text). s.now)))
           ∙ sym c.fits_script.ensures ∙ fits,
-      queries_told c.is_set-queries.result c.get_str-script.result (matches_of program _) script
+      queries_checked c.is_set-queries.result c.get_str-script.result (matches_of program _) script
           (c.is_set-queries.ensures ∙ ap (is_given (codes "queries")) m.rows) ∙ sym c.fits_queries.ensures ∙ isnt,
     )
 
@@ -158,5 +158,5 @@ returns-in_default-from_slice-clause-memory c =
       script_one c.get_str-script.result (length c.unwrap_or-texts.result.now) (rows_of found) script
           (omega (arith, ap length texts, length-map c.unwrap_or-texts.result.now (λ (s : Bor Text). s.now)))
           ∙ sym c.fits_script.ensures ∙ fits,
-      queries_told c.is_set-queries.result c.get_str-script.result (rows_of found) script c.is_set-queries.ensures ∙ sym c.fits_queries.ensures ∙ asks,
+      queries_checked c.is_set-queries.result c.get_str-script.result (rows_of found) script c.is_set-queries.ensures ∙ sym c.fits_queries.ensures ∙ asks,
     )

@@ -50,10 +50,10 @@ returns-in_err-written-clause-err g c =
     ∙ sym (flat_map-append (line_bytes c.args.width c.args.print.now) (front ++ piece) rest) ∙ ap bytes whole in
     let part : c.laid.result.now ≡ l = c.laid.ensures in
     let err = subst (λ (x : Layout). StoppedIn (bytes (take c.min-part.result (drop c.loop-index.from (visuals x))))
-    c.loop-index.written (g.W.Sink.state c.loop-index.writer) (g.W.Sink.state c.write_part.new.writer)
+    c.loop-index.written (g.W.Sink.state c.loop-index.writer) (g.W.Sink.state c.write_in_paragraph.new.writer)
     c.in_err-written.field-0.0.written) part c.in_err-written.ensures.err in
     same_fault _ _ (λ w. StoppedIn _ c.args.before _ _ w) c.from_residual.ensures.1
-    (subst (λ bs. StoppedIn bs c.args.before (g.W.Sink.state c.args.writer.now) (g.W.Sink.state c.write_part.new.writer) c.in_err-written.field-0.0.written) split
+    (subst (λ bs. StoppedIn bs c.args.before (g.W.Sink.state c.args.writer.now) (g.W.Sink.state c.write_in_paragraph.new.writer) c.in_err-written.field-0.0.written) split
     (stopped-before (bytes rest) (stopped-after c.loop-index.invariant.passed err)))
 
 pub loop-index-preserved : goal.loop-index-preserved
@@ -68,14 +68,14 @@ loop-index-preserved g c =
     ∙ ap (λ n. min c.loop-index.left (n - c.loop-index.from)) c.lines.ensures) front _ c.loop-index.invariant.parts
     in
     let ok = subst (λ (x : Layout). PassedOn (bytes (take c.min-part.result (drop c.loop-index.from (visuals x))))
-    c.loop-index.written (g.W.Sink.state c.loop-index.writer) (g.W.Sink.state c.write_part.new.writer)
+    c.loop-index.written (g.W.Sink.state c.loop-index.writer) (g.W.Sink.state c.write_in_paragraph.new.writer)
     c.in_ok-written.written) c.laid.ensures c.in_ok-written.ensures.ok in
     record {
       front = front ++ piece;
       parts = whole;
       here = λ item read. omega arith;
       passed = subst (λ bs. PassedOn bs c.args.before (g.W.Sink.state c.args.writer.now)
-          (g.W.Sink.state c.write_part.new.writer) c.in_ok-written.written)
+          (g.W.Sink.state c.write_in_paragraph.new.writer) c.in_ok-written.written)
           (sym (flat_map-append (line_bytes c.args.width c.args.print.now) front piece))
           (passed-append c.loop-index.invariant.passed ok);
       counted = c.in_ok-written.ensures.counted;

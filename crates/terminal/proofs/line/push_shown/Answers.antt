@@ -11,5 +11,5 @@ returns-clause-text c =
     let style = numbered part.text.now.links.items part.text.now.runs.items in
     if_ok c.push_chars.result
     (λ number. shown_is form.width form.print c.args.line.now (styles_in part) c.args.out.now.items c.push_blanks.new.out.items c.push_chars.new.out.items
-    (style c.args.before) (style c.in_ok-padded.padded) (style number) c.padding-spaces.result c.padding-spaces.ensures c.in_ok-padded.ensures.text)
+    (style c.args.before) (style c.in_ok-padded.padded) (style number) c.padding_len-spaces.result c.padding_len-spaces.ensures c.in_ok-padded.ensures.text)
     c.push_chars.ensures.text

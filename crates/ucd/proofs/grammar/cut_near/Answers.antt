@@ -2,14 +2,14 @@ use Rattle.std.proofs.Common.{arith}
 use Rattle.ucd.proofs.Cuts.{front_at, rest_at, parts_at, front_all, rest_none, parts_one}
 use Rattle.ucd.proofs.grammar.cut_near.Goals as goal
 
-pub returns-then-byte-mark-clause-front : goal.returns-then-byte-mark-clause-front
-returns-then-byte-mark-clause-front c = front_at _ _ _ c.loop-at.invariant (omega arith) (omega arith)
+pub returns-then-byte-delimiter-clause-front : goal.returns-then-byte-delimiter-clause-front
+returns-then-byte-delimiter-clause-front c = front_at _ _ _ c.loop-at.invariant (omega arith) (omega arith)
 
-pub returns-then-byte-mark-clause-rest : goal.returns-then-byte-mark-clause-rest
-returns-then-byte-mark-clause-rest c = rest_at _ _ _ c.loop-at.invariant (omega arith) (omega arith)
+pub returns-then-byte-delimiter-clause-rest : goal.returns-then-byte-delimiter-clause-rest
+returns-then-byte-delimiter-clause-rest c = rest_at _ _ _ c.loop-at.invariant (omega arith) (omega arith)
 
-pub returns-then-byte-mark-clause-parts : goal.returns-then-byte-mark-clause-parts
-returns-then-byte-mark-clause-parts c = parts_at _ _ _ c.loop-at.invariant (omega arith) (omega arith)
+pub returns-then-byte-delimiter-clause-parts : goal.returns-then-byte-delimiter-clause-parts
+returns-then-byte-delimiter-clause-parts c = parts_at _ _ _ c.loop-at.invariant (omega arith) (omega arith)
 
 pub returns-clause-front : goal.returns-clause-front
 returns-clause-front c = front_all _ _ (λ k lt. c.loop-at.invariant k (omega arith))

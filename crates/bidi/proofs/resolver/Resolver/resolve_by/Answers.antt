@@ -4,7 +4,7 @@ use Rattle.bidi.specs.Base.{base_level_of}
 use Rattle.bidi.specs.BracketTypes.{type_by}
 use Rattle.bidi.specs.Levels.{paragraph_levels}
 use Rattle.bidi.specs.Paragraphs.{AreBracketsOf}
-use Rattle.bidi.proofs.BracketTypeLemmas.{look_for, text_for, told}
+use Rattle.bidi.proofs.BracketTypeLemmas.{look_for, text_for, looked_up}
 use Rattle.bidi.proofs.LengthLemmas.{base_level_of-low, length-paragraph_levels}
 use Rattle.bidi.proofs.ResolverLemmas.{flat_levels, none_are}
 use Rattle.bidi.proofs.resolver.Resolver.resolve_by.Goals as goal
@@ -37,5 +37,5 @@ pub returns-clause-len : goal.returns-clause-len
 returns-clause-len c =
     let classes = c.args.classes.now in
     let brackets = c.args.brackets.now in
-    ap length (returns-clause-levels c (look_for brackets) (text_for brackets) (told brackets))
+    ap length (returns-clause-levels c (look_for brackets) (text_for brackets) (looked_up brackets))
     ∙ length-paragraph_levels (look_for brackets) (text_for brackets) classes (base_level_of classes c.args.base)

@@ -14,16 +14,16 @@ pub resolve_types-requires-clause-brackets : goal.resolve_types-requires-clause-
 resolve_types-requires-clause-brackets c = λ any.
     let p = c.args.paragraph.now in
     let taken : Takes p c.args.start c.take.new.self = c.in_ok-take.ensures in
-    let types : c.deref_mut.result.now ≡ map (class_at p.stayed.now.types.items) c.take.new.self.places.items = c.deref_mut.ensures.value ∙ taken.types_are ∙ taken.explicit_are in
+    let types : c.deref_mut.result.now ≡ map (class_at p.retained.now.types.items) c.take.new.self.places.items = c.deref_mut.ensures.value ∙ taken.types_are ∙ taken.explicit_are in
     ap length (c.deref-2.ensures.value ∙ taken.brackets_are any) ∙ length-map c.take.new.self.places.items (bracket_at p.brackets.types.now)
-    ∙ sym (ap length types ∙ length-map c.take.new.self.places.items (class_at p.stayed.now.types.items))
+    ∙ sym (ap length types ∙ length-map c.take.new.self.places.items (class_at p.retained.now.types.items))
 
 pub returns : goal.returns
 returns c look text are =
     let p = c.args.paragraph.now in
-    let levels = p.stayed.now.levels.items in
-    let classes = p.stayed.now.classes.items in
-    let explicit = p.stayed.now.types.items in
+    let levels = p.retained.now.levels.items in
+    let classes = p.retained.now.classes.items in
+    let explicit = p.retained.now.types.items in
     let sequence = sequence_in p c.args.start in
     let sides = c.sides_of-sides.result in
     let taken : Takes p c.args.start c.take.new.self = c.in_ok-take.ensures in

@@ -14,7 +14,7 @@ part-brackets-requires-clause-within c = λ any. omega (arith, c.requires.run.1,
 pub resolve_types-requires-clause-brackets : goal.resolve_types-requires-clause-brackets
 resolve_types-requires-clause-brackets c = λ any.
     let p = c.args.paragraph.now in
-    let types = p.stayed.now.types.items in
+    let types = p.retained.now.types.items in
     let start = c.args.start in
     let n = c.args.end - start in
     let there = sym c.part-brackets.ensures.same ∙ any in
@@ -31,15 +31,15 @@ resolve_types-requires-clause-brackets c = λ any.
       c.requires.run.0,
       c.requires.run.1,
       c.requires.paragraph.brackets there,
-      c.requires.paragraph.stayed.types,
+      c.requires.paragraph.retained.types,
     )
 
 pub returns : goal.returns
 returns c look text are =
     let p = c.args.paragraph.now in
-    let levels = p.stayed.now.levels.items in
-    let classes = p.stayed.now.classes.items in
-    let types = p.stayed.now.types.items in
+    let levels = p.retained.now.levels.items in
+    let classes = p.retained.now.classes.items in
+    let types = p.retained.now.types.items in
     let start = c.args.start in
     let end = c.args.end in
     let n = end - start in
@@ -53,7 +53,7 @@ returns c look text are =
     let sized : length text ≡ length levels = are.size in
     let inside = take n (drop start text) in
     let parts : AreBracketsOf c.part-brackets.result (length c.deref_mut.result.now) look inside = record {
-      size = omega (arith, ap length own, length-take n (drop start text), length-drop start text, length-take n (drop start types), length-drop start types, c.requires.run.0, c.requires.run.1, sized, c.requires.paragraph.stayed.types);
+      size = omega (arith, ap length own, length-take n (drop start text), length-drop start text, length-take n (drop start types), length-drop start types, c.requires.run.0, c.requires.run.1, sized, c.requires.paragraph.retained.types);
       types = λ any. c.part-brackets.ensures.types (sym c.part-brackets.ensures.same ∙ any) ∙ ap (λ xs. take n (drop start xs)) (are.types (sym c.part-brackets.ensures.same ∙ any))
           ∙ sym (types-part look text start n);
       none = λ none. All-take (λ b. look b ≡ None) n (drop start text) (All-drop (λ b. look b ≡ None) start text (are.none (sym c.part-brackets.ensures.same ∙ none)));
@@ -66,7 +66,7 @@ returns c look text are =
     rw (own, are_sides.level_is, are_sides.sos_is, are_sides.eos_is) at made in
     let count : length values ≡ n = c.resolve_types.auto.levels
     ∙ omega (arith, length-take n (drop start done), length-drop start done, c.requires.run.0, c.requires.run.1, c.requires.resolved) in
-    let written = written_alone look p.base text classes levels types start end c.requires.run.0 c.requires.run.1 sized c.requires.paragraph.stayed.types
+    let written = written_alone look p.base text classes levels types start end c.requires.run.0 c.requires.run.1 sized c.requires.paragraph.retained.types
     done values c.requires.resolved count values_are in
     ap (λ xs. take start done ++ (values ++ xs)) (drop-drop n start done)
     ∙ written ∙ ap (λ places. put done places (levels_in look p.base text classes levels types places)) (sym c.requires.alone)

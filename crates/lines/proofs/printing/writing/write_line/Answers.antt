@@ -17,12 +17,12 @@ write_ordered-requires-clause-chars g c = λ on.
 
 pub returns-clause-ok : goal.returns-clause-ok
 returns-clause-ok g c =
-    subst (λ (ls : List ℕ). IfOk c.write_part.result (λ n. PassedOn (line_bytes c.args.form.now.width c.args.form.now.print.now (shown_by c.args.line.now ls)) c.args.before
-    (g.W.Sink.state c.args.writer.now) (g.W.Sink.state c.write_part.new.writer) n)) (ap (take c.args.line.now.shown.len) (with_items_is c.args.visual.now.levels c.reset_front-is_flat.new.levels (omega arith)) ∙ c.reset_front-is_flat.ensures.levels)
-    c.write_part.ensures.ok
+    subst (λ (ls : List ℕ). IfOk c.write_with_levels.result (λ n. PassedOn (line_bytes c.args.form.now.width c.args.form.now.print.now (shown_by c.args.line.now ls)) c.args.before
+    (g.W.Sink.state c.args.writer.now) (g.W.Sink.state c.write_with_levels.new.writer) n)) (ap (take c.args.line.now.shown.len) (with_items_is c.args.visual.now.levels c.reset_front-is_flat.new.levels (omega arith)) ∙ c.reset_front-is_flat.ensures.levels)
+    c.write_with_levels.ensures.ok
 
 pub returns-clause-err : goal.returns-clause-err
 returns-clause-err g c =
-    subst (λ (ls : List ℕ). IfErr c.write_part.result (λ fault. StoppedIn (line_bytes c.args.form.now.width c.args.form.now.print.now (shown_by c.args.line.now ls)) c.args.before
-    (g.W.Sink.state c.args.writer.now) (g.W.Sink.state c.write_part.new.writer) fault.written)) (ap (take c.args.line.now.shown.len) (with_items_is c.args.visual.now.levels c.reset_front-is_flat.new.levels (omega arith)) ∙ c.reset_front-is_flat.ensures.levels)
-    c.write_part.ensures.err
+    subst (λ (ls : List ℕ). IfErr c.write_with_levels.result (λ fault. StoppedIn (line_bytes c.args.form.now.width c.args.form.now.print.now (shown_by c.args.line.now ls)) c.args.before
+    (g.W.Sink.state c.args.writer.now) (g.W.Sink.state c.write_with_levels.new.writer) fault.written)) (ap (take c.args.line.now.shown.len) (with_items_is c.args.visual.now.levels c.reset_front-is_flat.new.levels (omega arith)) ∙ c.reset_front-is_flat.ensures.levels)
+    c.write_with_levels.ensures.err
