@@ -119,7 +119,6 @@ fn next_lead(bytes: &[u8]) -> usize
 }
 
 // Returns the first index of a block at which a paragraph separator may begin, or `AT_ONCE` if there is none.
-#[inline(always)]
 fn first_lead(block: &[u8]) -> usize
     requires { length block.now ≡ BLOCK }
     ensures within { result ≤ AT_ONCE }
@@ -136,7 +135,6 @@ fn first_lead(block: &[u8]) -> usize
 
 // Returns a bit mask in which bit k is set if a paragraph separator may begin at position k of a block, for
 // each k below `AT_ONCE`.
-#[inline(always)]
 fn leads_in(block: &[u8]) -> u64
     requires { length block.now ≡ BLOCK }
     ensures { result ≡ mask_l (map (leads_at block.now) (range_with_len 0 AT_ONCE)) }

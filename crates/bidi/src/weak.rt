@@ -55,7 +55,6 @@ pub(crate) fn resolve_weak(types: &mut [BidiClass], sos: BidiClass)
 }
 
 // Applies the rules to the types in `begin..end`, given the state before them. Returns the state after them.
-#[inline(always)]
 fn read_each(types: &mut [BidiClass], begin: usize, end: usize, state: State) -> State
     requires state { IsState state.row state.start begin }
     requires order { begin ≤ end }

@@ -121,7 +121,6 @@ impl ColumnCache {
 
     // Finds the columns of a character that is not in the cache. Stores them in the character's entry if
     // `prepare` has allocated the entries.
-    #[inline(never)]
     fn look_up(&mut self, c: char) -> u8
         ensures { result ≡ columns_of c }
     {

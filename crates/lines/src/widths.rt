@@ -105,7 +105,6 @@ fn since_stop(text: &[char], k: usize) -> usize
 }
 
 /// Returns the next tab stop after a column, or the column itself if there are no tab stops.
-#[inline(never)] // so that the loops over characters have all registers
 pub(crate) fn next_stop(column: usize, tab_width: usize) -> usize
     requires columns { column < 2 ^ 60 }
     requires width { tab_width < 2 ^ 32 }

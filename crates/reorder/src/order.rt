@@ -187,7 +187,6 @@ pub fn level_run_len(levels: &[u8], start: usize) -> usize
 }
 
 // Returns how many of the next `LANES` levels equal `level`, up to the first level that differs.
-#[inline(always)]
 fn same_len(levels: &[u8], start: usize, level: u8) -> usize
     requires { start + LANES ≤ length levels.now }
     ensures most { result ≤ LANES }
@@ -199,7 +198,6 @@ fn same_len(levels: &[u8], start: usize, level: u8) -> usize
 
 // Returns how many levels from `start` on equal `level`, up to the first level that differs. Compares the
 // last `LANES` levels of the list, so that no levels are left to be compared one by one.
-#[inline(always)]
 fn last_same_len(levels: &[u8], start: usize, level: u8) -> usize
     requires last { length levels.now ≤ start + LANES }
     requires within { start ≤ length levels.now }
@@ -216,7 +214,6 @@ fn last_same_len(levels: &[u8], start: usize, level: u8) -> usize
 
 // Compares the `LANES` levels from `start` on with `level`. Returns one bit for each, which is set if they
 // differ.
-#[inline(always)]
 fn others(levels: &[u8], start: usize, level: u8) -> u64
     requires { start + LANES ≤ length levels.now }
     ensures { result ≡ others levels.now start level }
@@ -226,7 +223,6 @@ fn others(levels: &[u8], start: usize, level: u8) -> u64
 }
 
 // Returns the position of the lowest bit that is set, or `len` if there is none.
-#[inline(always)]
 fn first_set(bits: u64, len: usize) -> usize
     ensures { result ≡ first_set bits len }
 {
