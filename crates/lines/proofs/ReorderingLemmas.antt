@@ -1,12 +1,16 @@
 -- The visual order of a line, given the options of its layout.
-use Rattle.std.proofs.Common.{◌≡◌, ℕ, ◌-◌, ◌≤◌, Bool, true, false, ◌||◌, List, [], length, take, drop, sym, ap, ap₂, ◌∙◌, inl, inr, arith}
+use Rattle.std.proofs.Common.{◌≡◌, ℕ, ◌-◌, ◌≤◌, Bool, true, false, ◌||◌, List, [], length, map, take, drop, sym, ap, ap₂, ◌∙◌, inl, inr, arith}
 use Rattle.std.specs.Prelude.{min, slice_range, if◌then◌else◌}
 use Rattle.std.proofs.lemmas.Bool.{cases_Bool, cases_lt}
-use Rattle.std.proofs.lemmas.List.{drop_all, length-drop, take_all}
+use Rattle.std.proofs.lemmas.List.{drop_all, length-drop, length-map, take_all}
 use Rattle.reorder.specs.Clusters.{cluster_classes}
 use Rattle.reorder.specs.Order.{ltov_of, order_of, vtol_of}
 use Rattle.reorder.proofs.ClusterLemmas.{length-cluster_classes}
+use Rattle.ucd.specs.Classes.{class_in}
+use Rattle.ucd.specs.Properties.{properties_of}
 use Rattle.ucd.specs.declared.bidi_class.BidiClass.{BidiClass}
+use Rattle.ucd.specs.declared.properties.Properties.{Properties}
+use Rattle.ucd.specs.declared.tables.Tables.{Tables}
 use Rattle.lines.specs.Clusters.{cluster_ends}
 use Rattle.lines.specs.Reordering.{classes_by, ends_by, ltov_by, vtol_by, reorders}
 use Rattle.lines.specs.declared.options.Options.{Options}
@@ -81,3 +85,9 @@ length-classes_by options classes ends levels fit =
       | inl on ↦ let e : size options.reorder_clusters ≡ size true = ap size on in omega (arith, e, length-cluster_classes ends levels)
       | inr off ↦ let e : size options.reorder_clusters ≡ size false = ap size off in omega (arith, e, fit)
     ]
+
+-- a line has properties for each character of its shown part
+pub within_properties : (levels : List ℕ) (tables : Tables) (text : List ℕ) (properties : List Properties) → properties ≡ map (properties_of tables) text → length levels ≤ length text
+    → length levels ≤ length (map class_in properties)
+within_properties levels tables text properties are fit =
+    omega (arith, fit, length-map properties class_in, length-map text (properties_of tables), ap length are)

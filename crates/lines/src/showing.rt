@@ -309,7 +309,12 @@ pub(crate) fn show_part(
     if is_plain(levels, is_flat) {
         show_plain(part, ltov, vtol, chars);
     } else {
-        let classes = LineClasses::of(line, levels);
+        let classes = LineClasses {
+            properties: line.properties,
+            ends: line.ends,
+            levels,
+            reorder_clusters: line.rules.options.reorder_clusters,
+        };
         visual_order(&classes, levels, reorders(line.rules.options), vtol, ltov);
         let properties = &line.properties[..levels.len()];
         visual_chars(line.rules.tables, part, properties, levels, vtol, chars);
@@ -349,7 +354,12 @@ pub(crate) fn show_chars(line: &Text<'_>, levels: &[u8], places: &mut [u32], cha
     let part = &line.characters[..levels.len()];
     let properties = &line.properties[..levels.len()];
     if reorders(line.rules.options) {
-        let classes = LineClasses::of(line, levels);
+        let classes = LineClasses {
+            properties: line.properties,
+            ends: line.ends,
+            levels,
+            reorder_clusters: line.rules.options.reorder_clusters,
+        };
         visual_places(&classes, levels, true, places);
         visual_chars(line.rules.tables, part, properties, levels, places, chars);
         return;

@@ -158,9 +158,6 @@ pub text_none : (bytes : List ℕ) (b : Bool) → b ≡ (length bytes == 0) → 
 text_none bytes b e t = nil_from_length (chars bytes) (no_chars bytes (ap length (none_left bytes b e t)))
 
 -- ---- the tests of a length against the limit
-pub is_short : (n : ℕ) → n ≤ PARAGRAPH_LIMIT → false ≡ not (nat_le n PARAGRAPH_LIMIT)
-is_short n short = sym (ap not (le-leb n PARAGRAPH_LIMIT short))
-
 pub is_counted : (m n : ℕ) → m ≡ n → nat_lt PARAGRAPH_LIMIT m ≡ not (nat_le n PARAGRAPH_LIMIT)
 is_counted m n e = ap (nat_lt PARAGRAPH_LIMIT) e ∙ ⊎_elim
     (λ long. lt-ltb PARAGRAPH_LIMIT n long ∙ sym (ap not (lt-leb n PARAGRAPH_LIMIT long)))

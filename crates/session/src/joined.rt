@@ -37,10 +37,6 @@ fn len_at_most(front: &[char], piece: &str, back: &[char]) -> usize
 fn is_long(text: &str) -> bool
     ensures { result ≡ not (nat_le (length (chars text.now)) PARAGRAPH_LIMIT) }
 {
-    // Fast path: a text has at most as many characters as bytes.
-    if text.len() <= PARAGRAPH_LIMIT {
-        return false;
-    }
     text.chars().count() > PARAGRAPH_LIMIT
 }
 
@@ -73,9 +69,6 @@ pub fn has_long(engine: &Engine, front: &[char], piece: &str, back: &[char]) -> 
     // Fast path: no paragraph is longer than the whole text.
     if len_at_most(front, piece, back) <= PARAGRAPH_LIMIT {
         return false;
-    }
-    if front.is_empty() && back.is_empty() {
-        return has_long_in_text(engine, piece);
     }
     let mut scan = Scan::new();
     scan.take_all(engine, front);

@@ -1,12 +1,13 @@
-use Rattle.std.proofs.Common.{◌≡◌, ◌∙◌, ℕ, length, map, take, ap, subst, sym}
+use Rattle.std.proofs.Common.{◌≡◌, ◌∙◌, ℕ, Bool, length, map, take, ap, subst, sym}
 use Rattle.std.proofs.lemmas.List.{length-take-le, take-map}
 use Rattle.ucd.specs.Properties.{properties_of}
 use Rattle.ucd.specs.Classes.{class_in}
 use Rattle.ucd.specs.Within.{AreWithin}
 use Rattle.reorder.specs.Mirroring.{visual_chars}
+use Rattle.reorder.specs.Order.{vtol_of}
 use Rattle.reorder.proofs.OrderLemmas.{length-order, vtol_within}
 use Rattle.lines.specs.Reordering.{classes_by, reorders}
-use Rattle.lines.proofs.ReorderingLemmas.{not_reordered}
+use Rattle.lines.proofs.ReorderingLemmas.{length-classes_by, not_reordered, within_properties}
 use Rattle.lines.proofs.showing.show_chars.Goals as goal
 
 pub visual_chars-requires-clause-properties : goal.visual_chars-requires-clause-properties
@@ -54,3 +55,17 @@ returns-in-None c =
     c.visual_chars-in-None.ensures
     ∙ ap (visual_chars line.rules.tables.now levels (take (length levels) line.characters.now))
     (c.order_runs.ensures.places c.in-None.is ∙ not_reordered line.rules.options (map class_in line.properties.now) line.ends.now levels (sym c.reorders.ensures ∙ c.if-reorders.false))
+
+pub visual_places-requires-clause-line : goal.visual_places-requires-clause-line
+visual_places-requires-clause-line c =
+    let line = c.args.line.now in
+    length-classes_by line.rules.options (map class_in line.properties.now) line.ends.now c.args.levels.now (within_properties c.args.levels.now line.rules.tables.now line.characters.now line.properties.now c.requires.line c.requires.levels)
+
+pub returns-then-reorders : goal.returns-then-reorders
+returns-then-reorders c =
+    let line = c.args.line.now in
+    let levels = c.args.levels.now in
+    let classes = classes_by line.rules.options (map class_in line.properties.now) line.ends.now levels in
+    c.visual_chars.ensures
+    ∙ ap (visual_chars line.rules.tables.now levels (take (length levels) line.characters.now))
+    (c.visual_places.ensures.vtol ∙ ap (λ (on : Bool). vtol_of on classes levels) (sym c.if-reorders.true ∙ c.reorders.ensures))

@@ -1,11 +1,14 @@
-use Rattle.std.proofs.Common.{◌≡◌, length, map, take, ap, subst, sym, ◌∙◌, arith}
+use Rattle.std.proofs.Common.{◌≡◌, Bool, length, map, take, ap, subst, sym, ◌∙◌, arith}
 use Rattle.std.specs.List.{range_with_len}
 use Rattle.std.proofs.lemmas.List.{length-take-le, take-map}
 use Rattle.ucd.specs.Properties.{properties_of}
 use Rattle.ucd.specs.Classes.{class_in}
 use Rattle.ucd.specs.Within.{AreWithin}
+use Rattle.reorder.specs.Mirroring.{visual_chars}
+use Rattle.reorder.specs.Order.{ltov_of, vtol_of}
 use Rattle.reorder.proofs.PlainLemmas.{plain_chars, plain_ltov, plain_vtol, plain_within}
 use Rattle.lines.specs.Reordering.{classes_by, reorders}
+use Rattle.lines.proofs.ReorderingLemmas.{length-classes_by, within_properties}
 use Rattle.lines.proofs.showing.show_part.Goals as goal
 
 pub returns-then-is_plain-clause-ltov : goal.returns-then-is_plain-clause-ltov
@@ -46,3 +49,26 @@ visual_chars-requires-clause-properties c =
     let line = c.args.line.now in
     let n = length c.args.levels.now in
     ap (take n) c.requires.line ∙ take-map (properties_of line.rules.tables.now) n line.characters.now
+
+pub visual_order-requires-clause-line : goal.visual_order-requires-clause-line
+visual_order-requires-clause-line c =
+    let line = c.args.line.now in
+    length-classes_by line.rules.options (map class_in line.properties.now) line.ends.now c.args.levels.now (within_properties c.args.levels.now line.rules.tables.now line.characters.now line.properties.now c.requires.line c.requires.levels)
+
+pub returns-else-is_plain-clause-ltov : goal.returns-else-is_plain-clause-ltov
+returns-else-is_plain-clause-ltov c =
+    let line = c.args.line.now in
+    let levels = c.args.levels.now in
+    c.visual_order.ensures.ltov ∙ ap (λ (on : Bool). ltov_of on (classes_by line.rules.options (map class_in line.properties.now) line.ends.now levels) levels) c.reorders.ensures
+
+pub returns-else-is_plain-clause-vtol : goal.returns-else-is_plain-clause-vtol
+returns-else-is_plain-clause-vtol c =
+    let line = c.args.line.now in
+    let levels = c.args.levels.now in
+    c.visual_order.ensures.vtol ∙ ap (λ (on : Bool). vtol_of on (classes_by line.rules.options (map class_in line.properties.now) line.ends.now levels) levels) c.reorders.ensures
+
+pub returns-else-is_plain-clause-chars : goal.returns-else-is_plain-clause-chars
+returns-else-is_plain-clause-chars c =
+    let line = c.args.line.now in
+    let levels = c.args.levels.now in
+    c.visual_chars.ensures ∙ ap (visual_chars line.rules.tables.now levels (take (length levels) line.characters.now)) (returns-else-is_plain-clause-vtol c)

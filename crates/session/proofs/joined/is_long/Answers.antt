@@ -1,14 +1,9 @@
-use Rattle.std.proofs.Common.{◌≡◌, length, arith}
+use Rattle.std.proofs.Common.{◌≡◌, length}
 use Rattle.std.specs.Str.{chars}
 use Rattle.std.proofs.lemmas.Iterator.{YieldsList-from_chars}
 use Rattle.std.proofs.lemmas.Iterator.Consumers.{count_from_yields_List}
-use Rattle.session.proofs.JoinedLemmas.{is_counted, is_short}
-use Rattle.session.proofs.RefusalSteps.{text_few}
+use Rattle.session.proofs.JoinedLemmas.{is_counted}
 use Rattle.session.proofs.joined.is_long.Goals as goal
-
-pub returns-then-text-le-PARAGRAPH_LIMIT : goal.returns-then-text-le-PARAGRAPH_LIMIT
-returns-then-text-le-PARAGRAPH_LIMIT c =
-    is_short (length (chars c.args.text.now)) (omega (arith, text_few c.args.text.now c.utf8.text, c.if-text-le-PARAGRAPH_LIMIT.true))
 
 pub returns : goal.returns
 returns c =
