@@ -184,7 +184,7 @@ impl Sum {
 
     /// Returns the total columns of consecutive characters, and whether they contain a tab or a mandatory
     /// break.
-    #[inline(always)] // so that a group of known length needs no loop
+
     pub(crate) fn of(piece: &[CharInfo]) -> Sum
         requires { length piece.now ≤ PARAGRAPH_LIMIT }
         ensures columns { result.has_tab ≡ false
@@ -341,7 +341,6 @@ fn put_without_tabs(
     );
 }
 
-#[inline(always)] // so that the loops over a group know its length
 fn put_group(
     tables: &Tables,
     text: &[char],
@@ -362,7 +361,6 @@ fn put_group(
     }
 }
 
-#[inline(always)]
 fn put_each(
     _tables: &Tables,
     text: &[char],
@@ -386,7 +384,6 @@ fn put_each(
 }
 
 // Implements `put_each` for characters that have one column.
-#[inline(always)]
 fn put_narrow(
     _tables: &Tables,
     _text: &[char],

@@ -61,7 +61,6 @@ impl ColumnCache {
     }
 
     /// Returns the width of a character in columns.
-    #[inline(always)]
     pub(crate) fn columns(&mut self, c: char) -> u8
         ensures { result ≡ columns_of c }
     {
@@ -91,7 +90,7 @@ impl ColumnCache {
 
     // Implements `sum` for a group of characters. Looks up no columns if a quick test shows that each
     // character has one.
-    #[inline(always)] // so that the loops over a group know its length
+
     fn sum_of_group(&mut self, group: &[char]) -> u32
         requires { length group.now ≡ AT_ONCE }
         ensures sum { result ≡ sum (map columns_of group.now) }

@@ -65,17 +65,14 @@ impl Sizes for ByColumns {
 
     ghost most = { λ _ k. 255 * k };
 
-    #[inline(always)]
     fn from(self, _start: usize) -> ByColumns {
         self
     }
 
-    #[inline(always)]
     fn size(self, infos: &[CharInfo], k: usize) -> u32 {
         u32::from(infos[k].columns)
     }
 
-    #[inline(always)]
     fn group(self, infos: &[CharInfo], k: usize) -> Option<Sum> {
         Some(Sum::of(&infos[k..k + GROUP]))
     }
@@ -121,7 +118,6 @@ pub(crate) struct Ruler<S> {
 
 impl<S: Sizes> Ruler<S> {
     /// Returns the ruler for the characters from `start` on.
-    #[inline(always)]
     pub(crate) fn from(self, start: usize) -> Ruler<S>
         ensures sizes { (infos : List CharInfo) → sized (S.given result.sizes) (drop start infos)
             ≡ drop start (sized (S.given self.sizes) infos) }

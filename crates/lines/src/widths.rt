@@ -13,7 +13,7 @@ ghost use Rattle.lines.specs.declared.engine.TheConstants.{PARAGRAPH_LIMIT};
 use unicode_width::UnicodeWidthChar;
 
 /// Returns the width of a character in columns, or 0 if the crate `unicode_width` has no width for it.
-#[inline(always)] // so that a lookup makes one call less
+
 pub(crate) fn columns(c: char) -> u8
     ensures value { result ≡ columns_of c }
     ensures few { result ≤ 3 }
@@ -121,7 +121,6 @@ pub(crate) fn next_stop(column: usize, tab_width: usize) -> usize
 // The loops of these two functions have no branches, so the compiler can test several characters at a time.
 
 /// Returns whether all characters are printable ASCII.
-#[inline(always)]
 pub(crate) fn are_printable(text: &[char]) -> bool
     ensures { result ≡ list_all is_printable text.now }
 {
@@ -134,7 +133,6 @@ pub(crate) fn are_printable(text: &[char]) -> bool
 
 /// Returns whether all characters are printable ASCII, or Latin, Greek, Cyrillic, Hebrew or Arabic letters,
 /// or code points between these. All these characters have one column.
-#[inline(always)]
 pub(crate) fn are_common(text: &[char]) -> bool
     ensures { result ≡ list_all is_common text.now }
 {
