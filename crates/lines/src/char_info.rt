@@ -184,7 +184,6 @@ impl Sum {
 
     /// Returns the total columns of consecutive characters, and whether they contain a tab or a mandatory
     /// break.
-
     pub(crate) fn of(piece: &[CharInfo]) -> Sum
         requires { length piece.now ≤ PARAGRAPH_LIMIT }
         ensures columns { result.has_tab ≡ false

@@ -90,7 +90,6 @@ impl ColumnCache {
 
     // Implements `sum` for a group of characters. Looks up no columns if a quick test shows that each
     // character has one.
-
     fn sum_of_group(&mut self, group: &[char]) -> u32
         requires { length group.now ≡ AT_ONCE }
         ensures sum { result ≡ sum (map columns_of group.now) }

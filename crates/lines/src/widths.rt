@@ -13,7 +13,6 @@ ghost use Rattle.lines.specs.declared.engine.TheConstants.{PARAGRAPH_LIMIT};
 use unicode_width::UnicodeWidthChar;
 
 /// Returns the width of a character in columns, or 0 if the crate `unicode_width` has no width for it.
-
 pub(crate) fn columns(c: char) -> u8
     ensures value { result ≡ columns_of c }
     ensures few { result ≤ 3 }
