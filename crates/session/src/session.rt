@@ -341,8 +341,7 @@ impl<S: ParagraphStore<Kept>> Session<S> {
         Some(hit_in(&line, start, column))
     }
 
-    /// Returns the grapheme cluster of the character at a position, within its paragraph, or `None` past the
-    /// last character.
+    /// Returns the grapheme cluster of a character within its paragraph, or `None` past the last character.
     ///
     /// Reads back to the nearest place where a cluster ends regardless of other characters, such as before
     /// most letters and emoji, and forward to the next such place. In the worst case, such as a paragraph of
@@ -655,8 +654,7 @@ impl<S: ParagraphStore<Kept>> Session<S> {
         self.replace(pos, count, "")
     }
 
-    /// Replaces `count` characters, starting at `pos`, with a text. This is a single edit, with a single
-    /// damage.
+    /// Replaces `count` characters from `pos` on with a text, in a single edit with a single damage.
     pub fn replace(&mut self, pos: usize, count: usize, piece: &str) -> Result<Damage, EditFault>
         ensures ok { IfOk result (Edits (replacing pos count (chars piece.now)) self.old self.new) }
         ensures err { IfErr result (EditsNot (replacing pos count (chars piece.now)) self.old self.new) }

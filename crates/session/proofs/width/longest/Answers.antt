@@ -1,8 +1,8 @@
-use Rattle.std.proofs.Common.{◌≤◌, length, refl, sym, arith, subst}
+use Rattle.std.proofs.Common.{◌≤◌, length, refl, arith, subst, Bor}
+use Rattle.lines.specs.Layouts.{Layout}
 use Rattle.std.specs.List.{All}
 use Rattle.std.proofs.lemmas.Bool.Decides.{nat_tests}
 use Rattle.std.proofs.lemmas.List.{length-map}
-use Rattle.std.proofs.lemmas.Option.{slice_get_within}
 use Rattle.session.proofs.WidthLemmas.{all_listed, all_roomy, read_here, read_item, roomy_more, values, HasRoom}
 use Rattle.session.proofs.width.longest.Goals as goal
 
@@ -30,5 +30,5 @@ returns-clause-all c = all_roomy (values c.args.list.now) c.loop-kept.kept-index
 pub returns-clause-none : goal.returns-clause-none
 returns-clause-none c empty =
     let list = values c.args.list.now in
-    let none : All (HasRoom 0) list = λ k kept here. omega (arith, empty, length-map (λ kept. kept.now) c.args.list.now, slice_get_within list k kept (sym here)) in
+    let none : All (HasRoom 0) list = λ k kept here. omega (arith, here, empty, length-map c.args.list.now (λ (kept : Bor Layout). kept.now)) in
     omega (arith, c.loop-kept.invariant.least 0 none)
