@@ -36,8 +36,8 @@ module _ (line : Visual) where
       (nat_le first k && nat_lt k end) && takes_columns k
 
   -- The column of the leading end of a unit. At an even level, this is the left edge of its first character.
-  -- At an odd level, it is the right edge of its rightmost character, which may be a nonspacing mark that takes columns
-  -- and comes after its base (L3).
+  -- At an odd level, it is the right edge of its rightmost character, which may be a later character of its cluster
+  -- (L3).
   abbrev pub leading_of : ℕ → ℕ → ℕ → ℕ
   leading_of level first end =
       if is_odd level then columns_left line (after (greatest (is_in_unit first end) (length line.vtol)) 0) else leading_edge line first

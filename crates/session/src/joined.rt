@@ -40,8 +40,8 @@ fn is_long(text: &str) -> bool
     text.chars().count() > PARAGRAPH_LIMIT
 }
 
-/// Returns whether any paragraph of a text is too long. Only paragraphs with too many bytes are decoded.
-/// Allocates nothing.
+/// Returns whether any paragraph of a text is too long. Decodes paragraphs until at most `PARAGRAPH_LIMIT`
+/// bytes are left. Allocates nothing.
 pub fn has_long_in_text(engine: &Engine, text: &str) -> bool
     ensures { result ≡ not (is_within_limit (cut_by (rules_of engine.now)) (chars text.now)) }
 {

@@ -11,7 +11,7 @@ pub enum Width {
     Unlimited,
 }
 
-/// The order of nonspacing marks and other parts of a grapheme cluster in right-to-left text.
+/// The order of the characters of a grapheme cluster in right-to-left text.
 #[derive(Clone, Copy, Debug, PartialEq, Eq)]
 pub enum Marks {
     /// The characters of a grapheme cluster keep their logical order.

@@ -44,7 +44,7 @@ pub(crate) fn tabs_by(text: Option<&str>) -> Option<u8>
     }
 }
 
-/// Returns the order of nonspacing marks that a value names.
+/// Returns the order of a cluster's characters that a value names.
 pub(crate) fn marks_by(text: Option<&str>) -> Option<Marks>
     ensures { result ≡ marks_by (option_map (λ text. text.now) text.entry) }
 {

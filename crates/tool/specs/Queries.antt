@@ -82,8 +82,8 @@ abbrev pub edges_answer : Edge → Edge → List ℕ
 edges_answer first last = codes "=" ++ edge_text first ++ edge_text last ++ codes "\n"
 
 -- the reply to `step` if the edge is at the end of its line in that direction
-abbrev pub end_answer : List ℕ
-end_answer = codes "= end\n"
+abbrev pub line_end_answer : List ℕ
+line_end_answer = codes "= end\n"
 
 -- the edge and the direction that the arguments of a query denote
 abbrev pub edge_of : ℕ → Bool → Edge
@@ -149,16 +149,16 @@ module _ (print : Print) (width : ℕ) (kept : List Layout) where
   edge_caret_text rules edge = optional_answer (option_map caret_numbers (edge_caret_at rules kept edge))
 
   -- The reply to `at`: the edge at a column of the screen. The columns of the padding count as the first column of the shown part.
-  abbrev pub edge_reply : Option Edge → List ℕ
-  edge_reply (Some edge) = edge_answer edge
-  edge_reply None = out_of_range
+  abbrev pub optional_edge : Option Edge → List ℕ
+  optional_edge (Some edge) = edge_answer edge
+  optional_edge None = out_of_range
 
   abbrev pub left_columns : Option Visual → ℕ
   left_columns (Some line) = screen_left print width line
   left_columns None = 0
 
   abbrev pub at_text : Rules → ℕ → ℕ → List ℕ
-  at_text rules n column = edge_reply (edge_at rules kept n (column - left_columns (slice_get (lines_in kept) n)))
+  at_text rules n column = optional_edge (edge_at rules kept n (column - left_columns (slice_get (lines_in kept) n)))
 
   -- the reply to `spans`: the columns of the screen that the characters from position `start` up to `end` cover in line n
   abbrev pub spans_on : ℕ → ℕ → Option ℕ → Option Visual → List ℕ
@@ -193,7 +193,7 @@ module _ (kept : List Layout) where
   abbrev pub step_by : Option Caret → Option Edge → List ℕ
   step_by None next = out_of_range
   step_by (Some caret) (Some next) = edge_answer next
-  step_by (Some caret) None = end_answer
+  step_by (Some caret) None = line_end_answer
 
   abbrev pub step_text : Rules → Edge → Direction → List ℕ
   step_text rules edge direction = step_by (edge_caret_at rules kept edge) (step_at rules kept edge direction)

@@ -7,7 +7,7 @@ ghost use Rattle.lines.specs.Writing.{PassedOn};
 ghost use Rattle.session.specs.Kept.{text_of};
 ghost use Rattle.tool.specs.Queries.{cluster_text, optional_answer, word_text};
 ghost use Rattle.tool.specs.Queries.{edge_text, listed, out_of_range, side_text, numbers_answer};
-ghost use Rattle.tool.specs.Queries.{count_answer, edge_answer, edges_answer, end_answer};
+ghost use Rattle.tool.specs.Queries.{count_answer, edge_answer, edges_answer, line_end_answer};
 ghost use Rattle.tool.specs.Reading.{answer_text, Stops};
 ghost use Rattle.tool.specs.ScriptRun.{damage_text, refusal_text};
 
@@ -97,8 +97,8 @@ pub fn edges_answer(first: Edge, last: Edge) -> Answer
 }
 
 /// Returns the reply to `step` if the edge is at the end of its line in that direction.
-pub fn end_answer() -> Answer
-    ensures { result.items ≡ end_answer }
+pub fn line_end_answer() -> Answer
+    ensures { result.items ≡ line_end_answer }
 {
     let mut answer = Answer::new();
     push(&mut answer, b"= end\n");

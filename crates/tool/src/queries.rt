@@ -16,8 +16,8 @@ ghost use Rattle.tool.specs.Queries.{left_columns, screen_hit, screen_left, Answ
 ghost use Rattle.tool.specs.Reading.{Stops};
 
 use crate::answers::{
-    Answer, cluster_answer, edge_answer, edges_answer, end_answer, numbers_answer, offset_answer,
-    out_of_range, position_answer, word_answer, write_bytes,
+    Answer, cluster_answer, edge_answer, edges_answer, line_end_answer, numbers_answer,
+    offset_answer, out_of_range, position_answer, word_answer, write_bytes,
 };
 use crate::listings::{write_ends, write_runs, write_spans};
 use crate::reasons::reasons_line;
@@ -235,7 +235,7 @@ fn step_answer<S: ParagraphStore<Kept>>(
     }
     match session.step(edge, direction)? {
         Some(next) => Ok(edge_answer(next)),
-        None => Ok(end_answer()),
+        None => Ok(line_end_answer()),
     }
 }
 
