@@ -1213,8 +1213,8 @@ extern "C" {
     /// line above (0). Past the last line, `hordguli_edge_at` returns OUT_OF_RANGE.
     ///
     /// Each step changes the column. Repeated steps reach every boundary in their direction. With HORDGULI_REORDER_NSM and
-    /// without HORDGULI_REORDER_CLUSTERS, this holds only if the marks in the text have no columns. Of the nonspacing marks
-    /// of Unicode 15.0, only U+2D7F and U+1171E have columns.
+    /// without HORDGULI_REORDER_CLUSTERS, this is certain only if the nonspacing marks in the text have no columns. Of those of
+    /// Unicode 15.0, only U+2D7F and U+1171E have columns.
     ///
     /// Errors: NULL, OVERLAP, UNKNOWN_OPTION, CLOSED, OUT_OF_RANGE, NO_MEMORY.
     ///
