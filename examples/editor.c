@@ -190,7 +190,7 @@ static void draw(void) {
     static int is_selected;
     hordguli_caret place = caret_place();
     hordguli_counts all = counts();
-    char told[200];
+    char status_row[200];
     scroll_to(place.line);
     if (is_selected || caret.pos != anchor.pos) memset(stale, 1, height);
     is_selected = caret.pos != anchor.pos;
@@ -200,8 +200,8 @@ static void draw(void) {
         if (top + row < all.lines) draw_line(row, top + row);
         stale[row] = 0;
     }
-    snprintf(told, sizeof told, "%s: %zu of %zu. %s", path, caret.pos, all.characters, note);
-    printf("\33[%zu;1H\33[K%.*s", height + 1, (int)width - 1, told);
+    snprintf(status_row, sizeof status_row, "%s: %zu of %zu. %s", path, caret.pos, all.characters, note);
+    printf("\33[%zu;1H\33[K%.*s", height + 1, (int)width - 1, status_row);
     printf("\33[%zu;%zuH", place.line - top + 1, place.column + 1 < width ? place.column + 1 : width);
     fflush(stdout);
 }

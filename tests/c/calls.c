@@ -1322,7 +1322,7 @@ static void printed(void) {
     size_t length = 77;
     hordguli_work works[2];
     static const char all[] = "abc \u05d2\u05d1\u05d0\n12 (\u05d0)\nx y\n";
-    static const char told[] = "LTR\n0 1 2 3 6 5 4\n0 1 2 3 6 5 4\n0 0 0 0 1 1 1\n";
+    static const char first_line[] = "LTR\n0 1 2 3 6 5 4\n0 1 2 3 6 5 4\n0 0 0 0 1 1 1\n";
     uint32_t plain = HORDGULI_PRINT_VISUAL | HORDGULI_PRINT_MIRRORED;
     IS(hordguli_lines_utf8(NULL, 0, 1, plain, 500, bytes, &length), NULL);
     IS(hordguli_lines_utf8(&session, 0, 1, plain, 500, NULL, &length), NULL);
@@ -1348,7 +1348,7 @@ static void printed(void) {
     OK(hordguli_lines_utf8(&session, 0, 3, plain, sizeof all - 1, bytes, &length));
     same(bytes, length, all);
     OK(hordguli_lines_utf8(&session, 0, 1, 30, 500, bytes, &length));
-    same(bytes, length, told);
+    same(bytes, length, first_line);
     OK(hordguli_lines_utf8(&session, 1, 1, HORDGULI_PRINT_VISUAL, 500, bytes, &length));
     same(bytes, length, "12 )\u05d0(\n");
     OK(hordguli_lines_utf8(&session, 1, 1, HORDGULI_PRINT_DEFAULT, 500, bytes, &length));
