@@ -53,6 +53,7 @@ WORKLOADS = {
     "fribidi": {
         "English": Run("--width 80", text(ENGLISH, 200_000)),
         "short English paragraphs": Run("--width 80", text(ENGLISH, 200_000, mean=35)),
+        "short mixed paragraphs": Run("--width 80", text([*ENGLISH, *HEBREW, *ARABIC], 60_000, mean=45)),
         "Hebrew": Run("--width 80", text(HEBREW, 150_000)),
         "Arabic": Run("--width 80", text(ARABIC, 150_000)),
         "mixed": Run("--width 80", text(MIXED, 120_000)),
