@@ -1,5 +1,6 @@
-/* Makes random edits in a session. After each edit, the session must equal a new session on the whole text. Usage:
- * random FOLDER CHANGES, where FOLDER has the table files. */
+/* Makes random edits in a session. After each edit, the session must equal a new session on the whole text. Half of the
+ * edits insert or delete characters next to one of the same kind, which must not analyse the paragraph again. Usage: random
+ * FOLDER CHANGES [17.0], where FOLDER has the table files, by default of Unicode 15.0. */
 #include "test.h"
 #include "snapshot.h"
 
@@ -165,14 +166,41 @@ static void text_alone_is_that_of_session(hordguli_session *session, const char 
 static uint32_t text[MOST * 4];
 static size_t length;
 
+/* Characters of the same kind: letters, digits, ideographs and spaces. */
+static const uint32_t kinds[][2] = {
+    {'a', 'z'}, {'0', '9'}, {0x5D0, 0x5EA}, {0x628, 0x63A}, {0x661, 0x669}, {0x4E00, 0x9FA5}, {' ', ' '},
+};
+enum { KINDS = sizeof kinds / sizeof *kinds };
+
+/* Returns the number of a character's kind, or `KINDS` if it has none of them. */
+static size_t kind_of(uint32_t character) {
+    size_t kind = 0;
+    while (kind < KINDS && (character < kinds[kind][0] || character > kinds[kind][1])) kind++;
+    return kind;
+}
+
+/* Returns up to three characters of the kind of the character before `pos`, or none if that has no kind. */
+static size_t typed(size_t pos, uint32_t *piece) {
+    size_t kind = kind_of(text[pos - 1]), count = kind < KINDS ? below(4) : 0;
+    for (size_t k = 0; k < count; k++) piece[k] = kinds[kind][0] + (uint32_t)below(kinds[kind][1] - kinds[kind][0] + 1);
+    return count;
+}
+
+/* Returns how many characters from `pos` on, at most three, are of the kind of the character before them. */
+static size_t erased(size_t pos) {
+    size_t kind = kind_of(text[pos - 1]), most = kind < KINDS ? below(4) : 0, count = 0;
+    while (count < most && pos + count < length && kind_of(text[pos + count]) == kind) count++;
+    return count;
+}
+
 int main(int count, char **words) {
     hordguli_tables tables = HORDGULI_TABLES_INIT;
     hordguli_session kept = HORDGULI_SESSION_INIT;
     uint32_t width = 20, options = 0;
     long changes;
-    if (count != 3) return 2;
+    if (count != 3 && count != 4) return 2;
     changes = atol(words[2]);
-    if (!OK(hordguli_tables_open_folder(&tables, words[1], NULL))) return finish("random");
+    if (!OK(hordguli_tables_open_folder_version(&tables, count == 4 ? HORDGULI_UNICODE_17_0 : HORDGULI_UNICODE_15_0, words[1], NULL))) return finish("random");
     for (long change = 0; change < changes; change++) {
         hordguli_session anew = HORDGULI_SESSION_INIT;
         hordguli_counts counts, others;
@@ -185,6 +213,8 @@ int main(int count, char **words) {
         char piece_bytes[256];
         static snapshot then, now;
         hordguli_status status;
+        hordguli_work work, worked;
+        int is_run = length > 0 && length < MOST && below(2) == 0; /* whether only a run becomes longer or shorter */
         if (change % 500 == 0) { /* a session with other options */
             hordguli_session_close(&kept);
             options = (uint32_t)below(128) | (below(2) == 0 ? HORDGULI_LINE_SEPARATORS : 0);
@@ -195,10 +225,18 @@ int main(int count, char **words) {
         old_lines = counts.lines;
         old_paragraphs = counts.paragraphs;
         take(&kept, NULL, &then);
-        if (below(3) != 0 || length == 0) piece_length = decoded(text_pieces[below(TEXT_PIECES)], piece);
-        if (length > 0 && (below(2) == 0 || length > MOST - 40)) taken = below(length - pos < 30 ? length - pos + 1 : 30);
+        OK(hordguli_session_work(&kept, &work));
+        if (is_run) {
+            pos = 1 + below(length);
+            piece_length = typed(pos, piece);
+            taken = erased(pos);
+            is_run = piece_length + taken > 0;
+        } else {
+            if (below(3) != 0 || length == 0) piece_length = decoded(text_pieces[below(TEXT_PIECES)], piece);
+            if (length > 0 && (below(2) == 0 || length > MOST - 40)) taken = below(length - pos < 30 ? length - pos + 1 : 30);
+        }
         size = encoded(piece, piece_length, piece_bytes);
-        if (below(12) == 0) {
+        if (!is_run && below(12) == 0) {
             width = 1 + (uint32_t)below(below(2) == 0 ? 12 : 80);
             piece_length = taken = 0;
             status = hordguli_set_width(&kept, width, &damage);
@@ -210,6 +248,8 @@ int main(int count, char **words) {
             status = hordguli_replace(&kept, pos, taken, piece_bytes, size, &damage);
         }
         OK(status);
+        OK(hordguli_session_work(&kept, &worked));
+        HOLDS(!is_run || worked.analysed == work.analysed);
         take(&kept, NULL, &now);
         lines_were_replaced(&then, &now, damage.first_line, damage.old_lines, damage.new_lines);
         changed_lines_are_right(&kept, &then, &now, &damage);

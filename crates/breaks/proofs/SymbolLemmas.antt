@@ -18,8 +18,8 @@ use Rattle.breaks.specs.declared.symbol.TheConstants.{ATTACHED, DIGIT, JOINER, S
 use Rattle.breaks.proofs.BoolLemmas.{both, same, same_is, below, entries_below}
 use Rattle.breaks.proofs.Computed.{attached_are_last, answers_after, character_with, digit_is_one, is_character, joiner_is_one, symbols_are_right, symbols_are_within}
 
--- two characters are the same if `is_character` is true
-alike : (class class′ : LineClass) (detail detail′ : LineDetail) (wide wide′ pictograph pictograph′ : Bool) → class ≡ class′ → detail ≡ detail′ → wide ≡ wide′
+-- two characters are the same if all their fields are
+pub alike : (class class′ : LineClass) (detail detail′ : LineDetail) (wide wide′ pictograph pictograph′ : Bool) → class ≡ class′ → detail ≡ detail′ → wide ≡ wide′
     → pictograph ≡ pictograph′ → character_with class detail wide pictograph ≡ character_with class′ detail′ wide′ pictograph′
 alike class class′ detail detail′ wide wide′ pictograph pictograph′ a b e f = rw (a, b, e, f) refl
 

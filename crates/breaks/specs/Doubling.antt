@@ -1,5 +1,5 @@
 -- Doubled characters: a character directly next to another one of the same kind.
-use Rattle.std.specs.Prelude.{◌≡◌, ℕ, Bool, true, not, ◌&&◌, List, [], ◌∷◌, ◌++◌, length}
+use Rattle.std.specs.Prelude.{◌≡◌, ℕ, Bool, true, not, ◌&&◌, List, [], ◌∷◌, ◌++◌, length, Option, None, Some, if◌then◌else◌}
 use Rattle.std.specs.List.{insert}
 use Rattle.ucd.specs.declared.line_class.LineClass.{LineClass}
 use Rattle.ucd.specs.declared.line_class.LineClass.TheVariants.{AL, HL, ID, NU, SP}
@@ -23,6 +23,10 @@ can_be_doubled c = is_one_of doubled_classes c.class && not (is_detail c.detail 
 abbrev pub mark_between : LineClass → Mark
 mark_between ID = May
 mark_between class = Never
+
+-- the mark between two such characters, or `None` if they cannot be doubled
+abbrev pub mark_if_doubled : Character → Option Mark
+mark_if_doubled c = if can_be_doubled c then Some (mark_between c.class) else None
 
 -- Two characters are of the same kind if the rules read the same properties of both. Inserting a character d of the
 -- same kind directly after a character c adds the mark between the two, and changes no other mark. Inserting d directly

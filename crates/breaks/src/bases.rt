@@ -13,7 +13,7 @@ use std::alloc::{AllocError, Global};
 use ucd::{LineClass, LineDetail, Properties, Tables, Version};
 
 /// What the rules need to know about a character, including its class after LB1.
-#[derive(Clone, Copy)]
+#[derive(Clone, Copy, PartialEq)]
 pub struct Character {
     pub class: LineClass,
     pub detail: LineDetail,
@@ -82,8 +82,8 @@ fn known_detail(version: Version, detail: LineDetail) -> LineDetail
     }
 }
 
-// Looks up what the rules need to know about a character.
-fn look_up(tables: &Tables, c: char) -> Character
+/// Looks up what the rules need to know about a character.
+pub fn look_up(tables: &Tables, c: char) -> Character
     ensures { character_in result ≡ character tables.now c }
 {
     let version = tables.version();

@@ -17,6 +17,7 @@ mod bases;
 mod before;
 mod characters;
 mod conditions;
+mod doubling;
 mod entries;
 mod entries_17;
 mod line_rule;
@@ -33,6 +34,7 @@ mod table_17;
 mod walk;
 mod walk_17;
 
+pub use doubling::{are_of_one_kind, mark_if_doubled};
 pub use line_rule::LineRule;
 pub use mark::{
     Mark, doubling_keeps_marks, marks, marks_are_as_many, marks_into, numbers_are_whole,

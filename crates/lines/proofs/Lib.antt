@@ -25,6 +25,7 @@ mod OneLineLemmas
 mod OrderedLemmas
 pub mod PageLemmas
 pub mod RunColumnLemmas
+pub mod SameKindLemmas
 mod SegmentLemmas
 mod SelectionLemmas
 mod ReadingLemmas

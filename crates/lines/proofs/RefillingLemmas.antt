@@ -1,11 +1,11 @@
 -- Which line starts of a paragraph stay the same when a part of it changes.
-use Rattle.std.proofs.Common.{take-take, get_or, subst, ◌≡◌, ◌⊎◌, ℕ, zero, suc, ◌+◌, ◌-◌, ◌<◌, ◌≤◌, Bool, true, false, ◌||◌, Some, List, [], ◌∷◌, length, map, take, drop, refl, sym, ap, ◌∙◌, inl, inr, arith}
+use Rattle.std.proofs.Common.{take-take, get_or, subst, ◌≡◌, ◌⊎◌, ℕ, zero, suc, ◌+◌, ◌-◌, ◌<◌, ◌≤◌, Bool, true, false, ◌||◌, Some, List, [], ◌∷◌, ◌++◌, length, map, take, drop, refl, sym, ap, ap₂, ◌∙◌, inl, inr, arith}
 use Rattle.std.specs.Prelude.{slice_get}
 use Rattle.std.proofs.lemmas.Bool.{cases_Bool, cases_eq, both_ways, or_left, or_right}
-use Rattle.std.proofs.lemmas.List.{get_or-drop, length-drop}
-use Rattle.std.proofs.lemmas.Option.{get_or_from_slice_get, slice_get-get_or, slice_get_within}
+use Rattle.std.proofs.lemmas.List.{drop-drop, get_or-drop, length-drop, map-append, take-append-drop}
+use Rattle.std.proofs.lemmas.Option.{get_or_from_slice_get, none-some, same_Some, slice_get-get_or, slice_get_within}
 use Rattle.lines.specs.Filling.{cluster_ends_at, may_end, nothing, line_end, line_len, line_starts_of, starts}
-use Rattle.lines.specs.Refilling.{StartsFollow, StartsStay}
+use Rattle.lines.specs.Refilling.{StartsFollow, StartsSplice, StartsStay, StaysFrom}
 use Rattle.lines.specs.declared.char_info.CharInfo.{CharInfo}
 use Rattle.lines.proofs.FillingLemmas.{starts_line}
 use Rattle.lines.proofs.RefillingEnds.{Ends, is_candidate, candidate_within, same_stop_end, same_end, ends_within, ends_by_break, ends_by_cluster, ends_by_next, len_is_candidate}
@@ -262,4 +262,82 @@ starts_stay nobreak width ps qs n same = record {
   before_break = λ i s k e from below may. stays_break nobreak width ps qs n i s k same e from below may;
   before_cluster = λ i s k e from below cluster plain. stays_cluster nobreak width ps qs n i s k same e from below cluster plain;
   before_lines = λ i t e within. stays_lines nobreak width ps qs n i t same e within;
+}
+
+-- ---- starts in three parts
+
+get_taken : {X : Type 0} (xs : List X) (n i : ℕ) → i < n → slice_get (take n xs) i ≡ slice_get xs i
+get_taken xs zero i below = absurd (omega (arith, below))
+get_taken [] (suc n) i below = refl
+get_taken (x ∷ xs) (suc n) zero below = refl
+get_taken (x ∷ xs) (suc n) (suc i) below = get_taken xs n i (omega (arith, below))
+
+take_less : {X : Type 0} (xs : List X) (i : ℕ) → take i (take (suc i) xs) ≡ take i xs
+take_less [] zero = refl
+take_less [] (suc i) = refl
+take_less (x ∷ xs) zero = refl
+take_less (x ∷ xs) (suc i) = ap (λ (ys : List _). x ∷ ys) (take_less xs i)
+
+take_twice : {X : Type 0} (xs : List X) (n : ℕ) → take n (take n xs) ≡ take n xs
+take_twice xs zero = refl
+take_twice [] (suc n) = refl
+take_twice (x ∷ xs) (suc n) = ap (λ (ys : List _). x ∷ ys) (take_twice xs n)
+
+from_zero : (xs : List ℕ) → map (λ l. 0 + l) xs ≡ xs
+from_zero [] = refl
+from_zero (x ∷ xs) = let e : 0 + x ≡ x = omega arith in ap (λ m. m ∷ map (λ l. 0 + l) xs) e ∙ ap (λ (ys : List ℕ). x ∷ ys) (from_zero xs)
+
+moved_again : (s t u : ℕ) (xs : List ℕ) → map (λ l. s + l) (map (λ l. t + (l - u)) xs) ≡ map (λ l. s + t + (l - u)) xs
+moved_again s t u [] = refl
+moved_again s t u (x ∷ xs) =
+    let e : s + (t + (x - u)) ≡ s + t + (x - u) = omega arith in
+    ap (λ m. m ∷ map (λ l. s + l) (map (λ l. t + (l - u)) xs)) e ∙ ap (λ (ys : List ℕ). (s + t + (x - u)) ∷ ys) (moved_again s t u xs)
+
+first_is_zero : (nobreak : Bool) (width : ℕ) (ps : List CharInfo) (s : ℕ) → slice_get (line_starts_of nobreak width ps) 0 ≡ Some s → 0 ≡ s
+unfolding line_starts_of
+first_is_zero nobreak width [] s e = absurd (none-some s e)
+first_is_zero nobreak width (p ∷ ps) s e = same_Some 0 s e
+
+module _ (nobreak : Bool) (width : ℕ) (ps qs : List CharInfo) (n : ℕ) (same : take n ps ≡ take n qs) where
+  abbrev starts_in : List CharInfo → List ℕ
+  starts_in list = line_starts_of nobreak width list
+
+  splice_to_end : (i s k : ℕ) → slice_get (starts_in ps) i ≡ Some s → StaysFrom ps n i s k → starts_in qs ≡ take i (starts_in ps) ++ map (λ l. s + l) (starts_in (drop s qs))
+  splice_to_end i s k e (inl first) =
+      let none : 0 ≡ s = first_is_zero nobreak width ps s (subst (λ m. slice_get (starts_in ps) m ≡ Some s) first e) in
+      sym (from_zero (starts_in qs))
+      ∙ ap (λ m. map (λ l. m + l) (starts_in (drop m qs))) none
+      ∙ ap (λ m. take m (starts_in ps) ++ map (λ l. s + l) (starts_in (drop s qs))) (sym first)
+  splice_to_end i s k e (inr (low, more)) =
+      let stays : take (suc i) (starts_in qs) ≡ take (suc i) (starts_in ps) = stays_break nobreak width ps qs n i s k same e low more.0 more.1 in
+      let there : slice_get (starts_in qs) i ≡ Some s =
+      sym (get_taken (starts_in qs) (suc i) i (omega arith)) ∙ ap (λ (xs : List ℕ). slice_get xs i) stays ∙ get_taken (starts_in ps) (suc i) i (omega arith) ∙ e in
+      let front : take i (starts_in qs) ≡ take i (starts_in ps) = sym (take_less (starts_in qs) i) ∙ ap (take i) stays ∙ take_less (starts_in ps) i in
+      sym (take-append-drop i (starts_in qs)) ∙ ap₂ (λ (xs ys : List ℕ). xs ++ ys) front (starts_alone nobreak width qs i s there)
+
+  splice_to_start : (i s k m j t l b u : ℕ) → slice_get (starts_in ps) i ≡ Some s → StaysFrom ps n i s k
+      → slice_get (starts_in (take m (drop s qs))) j ≡ Some t → t ≤ l → l < m → may_end (take m (drop s qs)) l ≡ true
+      → slice_get (starts_in ps) b ≡ Some u → drop u ps ≡ drop (s + t) qs
+      → starts_in qs ≡ take i (starts_in ps) ++ (map (λ l. s + l) (take j (starts_in (take m (drop s qs)))) ++ map (λ l. s + t + (l - u)) (drop b (starts_in ps)))
+  splice_to_start i s k m j t l b u e stay found low below may later rest =
+      let ws : List CharInfo = take m (drop s qs) in
+      let rs : List CharInfo = drop s qs in
+      let stays : take (suc j) (starts_in rs) ≡ take (suc j) (starts_in ws) = stays_break nobreak width ws rs m j t l (take_twice rs m) found low below may in
+      let there : slice_get (starts_in rs) j ≡ Some t =
+      sym (get_taken (starts_in rs) (suc j) j (omega arith)) ∙ ap (λ (xs : List ℕ). slice_get xs j) stays ∙ get_taken (starts_in ws) (suc j) j (omega arith) ∙ found in
+      let front : take j (starts_in rs) ≡ take j (starts_in ws) = sym (take_less (starts_in rs) j) ∙ ap (take j) stays ∙ take_less (starts_in ws) j in
+      let back : drop j (starts_in rs) ≡ map (λ l. t + (l - u)) (drop b (starts_in ps)) =
+      (starts_follow nobreak width ps rs).moved b j u t later there (rest ∙ sym (drop-drop t s qs)) in
+      let parts : starts_in rs ≡ take j (starts_in ws) ++ map (λ l. t + (l - u)) (drop b (starts_in ps)) =
+      sym (take-append-drop j (starts_in rs)) ∙ ap₂ (λ (xs ys : List ℕ). xs ++ ys) front back in
+      splice_to_end i s k e stay
+      ∙ ap (λ (xs : List ℕ). take i (starts_in ps) ++ map (λ l. s + l) xs) parts
+      ∙ ap (λ (xs : List ℕ). take i (starts_in ps) ++ xs)
+      (map-append (λ l. s + l) (take j (starts_in ws)) (map (λ l. t + (l - u)) (drop b (starts_in ps)))
+      ∙ ap (λ (xs : List ℕ). map (λ l. s + l) (take j (starts_in ws)) ++ xs) (moved_again s t u (drop b (starts_in ps))))
+
+pub starts_splice : (nobreak : Bool) (width : ℕ) (ps qs : List CharInfo) (n : ℕ) → take n ps ≡ take n qs → StartsSplice nobreak width ps qs n
+starts_splice nobreak width ps qs n same = record {
+  to_end = λ i s k e stay. splice_to_end nobreak width ps qs n same i s k e stay;
+  to_start = λ i s k m j t l b u e stay found low below may later rest. splice_to_start nobreak width ps qs n same i s k m j t l b u e stay found low below may later rest;
 }

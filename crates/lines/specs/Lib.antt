@@ -28,6 +28,7 @@ pub mod Paragraphs
 pub mod Parts
 pub mod Printing
 pub mod Refilling
+pub mod SameKind
 pub mod Selections
 pub mod Separators
 pub mod Showing

@@ -14,6 +14,8 @@ ghost use Rattle.lines.specs.Pages.{lines_bytes, paragraph_bytes};
 ghost use Rattle.lines.specs.Printing.{FailedAs, skips_lines};
 ghost use Rattle.lines.specs.Separators.{separator_len};
 
+mod edited;
+
 use crate::buffers::LayoutBuffers;
 use crate::counting::char_count;
 use crate::counts::Counts;

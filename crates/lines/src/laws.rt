@@ -9,7 +9,7 @@ ghost use Rattle.lines.specs.Columns.{run_columns};
 ghost use Rattle.lines.specs.Layouts.{Layout, Rules, layout_of, lines_of, start_of, visuals};
 ghost use Rattle.lines.specs.Ordered.{ClustersAdjoin, IsOrdered, MarksStay, RunsAdjoin};
 ghost use Rattle.lines.specs.Pages.{layout_bytes};
-ghost use Rattle.lines.specs.Refilling.{StartsFollow, StartsStay};
+ghost use Rattle.lines.specs.Refilling.{StartsFollow, StartsSplice, StartsStay};
 ghost use Rattle.lines.specs.TabStops.{TabsEndAtStops};
 ghost use Rattle.lines.specs.Visual.{Visual};
 ghost use Rattle.lines.specs.declared.char_info.CharInfo.{CharInfo};
@@ -99,4 +99,12 @@ pub fn later_lines_follow()
 pub fn earlier_lines_stay()
     ensures { (nobreak : Bool) (width : ℕ) (before after : List CharInfo) (n : ℕ)
         → take n before ≡ take n after → StartsStay nobreak width before after n }
+{}
+
+/// States, as a theorem, how the line starts of a changed paragraph follow from its old line starts and from
+/// those of a window around the change. Both paragraphs have the same first `n` characters. Costs nothing at
+/// run time.
+pub fn line_starts_are_spliced()
+    ensures { (nobreak : Bool) (width : ℕ) (before after : List CharInfo) (n : ℕ)
+        → take n before ≡ take n after → StartsSplice nobreak width before after n }
 {}

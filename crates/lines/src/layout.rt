@@ -16,11 +16,16 @@ use crate::char_info::{CharInfo, InfoBuffers};
 use crate::clusters::ClusterBuffers;
 use crate::counts::{Count, Counted, Counts};
 use crate::fill::Shown;
+use crate::laid::Laid;
 use crate::one_line::one_line;
 use crate::paragraph::{LentRules, Paragraph, Text};
+use crate::properties::fill_properties;
+use crate::same_kind::{RunEdit, put_levels, put_marks};
 use crate::showing::show_lines;
 use crate::sizes::Ruler;
 use crate::workspace::{Workspace, fill_ends, fill_marks};
+use bidi::doubling_keeps_levels;
+use breaks::{doubling_keeps_marks, marks_are_as_many};
 use std::alloc::{AllocError, Global};
 
 impl Workspace {
@@ -33,6 +38,9 @@ impl Workspace {
     ghost use Rattle.lines.specs.Buffers.{held_lines, AreSound};
     ghost use Rattle.lines.specs.Paragraphs.{rules_in};
     ghost use Rattle.lines.specs.Reordering.{ends_by};
+    ghost use Rattle.lines.specs.Counts.{FillsAll, FillsSome};
+    ghost use Rattle.lines.specs.Layouts.{IsLaidOut};
+    ghost use Rattle.lines.specs.SameKind.{IsRunEdit};
 
     /// Lays out a paragraph. Returns its base level, and replaces the contents of `kept` with the rest of its
     /// layout.
@@ -88,6 +96,68 @@ impl Workspace {
         let (lines, written) = (&mut kept.lines, &mut counts.written);
         fill_lines(clusters, &paragraph, infos, width, lines, filled, written)?;
         Ok(base)
+    }
+
+    /// Lays out a paragraph that a run edit has made of a laid-out one. The levels and marks are those of the
+    /// old paragraph, with those of the new run. Returns the base level, and replaces the contents of `kept`
+    /// with the rest of the layout.
+    pub(crate) fn lay_out_run(
+        &mut self,
+        rules: &LentRules<'_>,
+        old: &Laid,
+        run: RunEdit,
+        text: &[char],
+        advances: Option<&[u32]>,
+        width: u32,
+        kept: &mut LayoutBuffers,
+        counts: &mut Counts,
+    ) -> Result<u8, AllocError>
+        requires laid { IsLaidOut (with_advances (rules_in rules.now) old.now.advances) old.now }
+        requires run { IsRunEdit rules.now.tables.now old.now.text text.now run }
+        requires limit { length text.now ≤ PARAGRAPH_LIMIT }
+        requires room { HaveRoom (option_map (λ list. list.now) advances) }
+        ensures base { IfOk result (λ base. base ≡ base_of (rules_in rules.now) text.now) }
+        ensures levels { OnOk result (kept.new.levels.items
+            ≡ levels_of rules.now.tables.now text.now rules.now.options.base) }
+        ensures marks { OnOk result (kept.new.marks.items
+            ≡ marks_of rules.now.tables.now rules.now.options.whole_numbers text.now) }
+        ensures ends { OnOk result (kept.new.ends.items ≡ ends_by rules.now.options text.now) }
+        ensures lines { OnOk result (held_lines kept.new.lines
+            ≡ lines_of (with_advances (rules_in rules.now) (option_map (λ list. list.now) advances.entry))
+            width text.now) }
+        ensures len { OnOk result (length kept.new.levels.items ≡ length text.now) }
+        ensures sound { OnOk result (AreSound kept.new.lines) }
+        ensures within { OnOk result (AreWithin (length text.now) (held_lines kept.new.lines)) }
+        ensures lines_len { OnOk result (length kept.new.lines.visual.levels.items ≡ length text.now) }
+        ensures counts { OnOk result (FillsAll (length text.now) counts.old counts.new) }
+        ensures at_most { FillsSome (length text.now) counts.old counts.new }
+    {
+        // By these theorems, the run edit changes no other level or mark.
+        doubling_keeps_levels();
+        doubling_keeps_marks();
+        marks_are_as_many(rules.tables, old.text(), rules.options.whole_numbers);
+        let filled = counts.take_filled(text.len());
+        let analysis = &mut self.analysis;
+        fill_properties(rules.tables, text, &mut analysis.properties)?;
+        put_levels(old.levels(), run, &mut kept.levels)?;
+        put_marks(old.marks(), run, &mut kept.marks)?;
+        fill_ends(&mut self.clusters, rules.options, text, &mut kept.ends)?;
+        let paragraph = Paragraph {
+            text: Text {
+                rules: *rules,
+                characters: text,
+                properties: &analysis.properties[..text.len()],
+                ends: &kept.ends,
+                base: old.base(),
+            },
+            advances,
+            levels: &kept.levels,
+            marks: &kept.marks,
+        };
+        let (clusters, infos) = (&mut self.clusters, &mut self.infos);
+        let (lines, written) = (&mut kept.lines, &mut counts.written);
+        fill_lines(clusters, &paragraph, infos, width, lines, filled, written)?;
+        Ok(old.base())
     }
 }
 

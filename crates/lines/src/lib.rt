@@ -49,6 +49,7 @@ mod printing;
 mod properties;
 mod reflow;
 mod reserve;
+mod same_kind;
 mod separators;
 mod showing;
 mod shown_parts;
@@ -66,15 +67,16 @@ pub use extents::Extents;
 pub use fill::Fill;
 pub use laid::Laid;
 pub use laws::{
-    clusters_adjoin, earlier_lines_stay, later_lines_follow, lines_are_few, lines_are_ordered,
-    lines_have_all_characters, paragraphs_print_their_lines, runs_adjoin, runs_have_all_columns,
-    tabs_end_at_stops,
+    clusters_adjoin, earlier_lines_stay, later_lines_follow, line_starts_are_spliced,
+    lines_are_few, lines_are_ordered, lines_have_all_characters, paragraphs_print_their_lines,
+    runs_adjoin, runs_have_all_columns, tabs_end_at_stops,
 };
 pub use options::Options;
 pub use printing::bytes::{WriteFault, write_chars};
 pub use printing::print::{Print, PrintFault};
 pub use reflow::ReflowScratch;
 pub use reorder::{Run, Runs};
+pub use same_kind::Replacement;
 pub use sizes::advances_fit;
 pub use spans::{Span, Spans};
 pub use visual_line::VisualLine;

@@ -94,10 +94,10 @@ impl Workspace {
     }
 }
 
-// Returns whether a list of this capacity is worth using for `len` items. At most `len / 8 + 16` items may
-// stay unused.
+// Returns whether a list of this capacity is worth using for `len` items: the two differ by at most
+// `len / 8 + 16`. Growing a list a little is cheaper than allocating a new one.
 fn fits(capacity: usize, len: usize) -> bool {
-    capacity >= len && capacity - len <= len / 8 + 16
+    capacity.abs_diff(len) <= len / 8 + 16
 }
 
 // Allocates a workspace.

@@ -36,7 +36,7 @@ use Rattle.session.proofs.RefusalLemmas.{allowed-room, allowed-within_limit, tex
 use Rattle.session.specs.declared.edits.TheConstants.{TEXT_LIMIT}
 
 -- replacing the middle of a list satisfies `Replaces`
-drop_two : {A : Type 0} (left mid right : List A) (n m : ℕ) → n ≡ length left → m ≡ length mid → drop (n + m) (left ++ (mid ++ right)) ≡ right
+pub drop_two : {A : Type 0} (left mid right : List A) (n m : ℕ) → n ≡ length left → m ≡ length mid → drop (n + m) (left ++ (mid ++ right)) ≡ right
 drop_two left mid right n m n-is m-is =
     ap (drop (n + m)) (sym (append_assoc left mid right)) ∙ drop_at (left ++ mid) right (n + m) (length-append left mid ∙ omega (arith, n-is, m-is))
 

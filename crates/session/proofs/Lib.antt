@@ -38,6 +38,7 @@ mod SpliceLemmas
 mod StateLemmas
 mod StayLemmas
 mod StepLemmas
+pub mod TouchedAloneLemmas
 mod TouchedLemmas
 mod TrimLemmas
 mod UnitEdgeLemmas

@@ -1,10 +1,12 @@
 -- Borders: starts and ends of paragraphs, with the numbers of paragraphs, characters and lines before them.
-use Rattle.std.specs.Prelude.{◌≡◌, ℕ, ◌+◌, ◌-◌, ◌<◌, ◌≤◌, List, length, take}
+use Rattle.std.specs.Prelude.{◌≡◌, ℕ, ◌+◌, ◌-◌, ◌<◌, ◌≤◌, List, Option, Some, length, take}
 use Rattle.lines.specs.Layouts.{Layout}
 use Rattle.session.specs.Kept.{pars_of, lines_in}
 use Rattle.session.specs.Touched.{start_of}
 use Rattle.session.specs.declared.borders.Border.{Border}
 use Rattle.session.specs.declared.edits.Damage.{Damage}
+use Rattle.session.specs.declared.edits.TextRange.{TextRange}
+use Rattle.session.specs.declared.joined.Edited.{Edited}
 
 -- `index` paragraphs come before a border, with `chars` characters and `lines` lines
 pub record IsBorder (kept : List Layout) (border : Border) : Type 0 where
@@ -34,3 +36,12 @@ damage_between front back fresh = record {
   old_pars = back.index - front.index;
   new_pars = length fresh;
 }
+
+-- whether `edited` is the only paragraph between two borders, with the edit that replaces the characters of a range with
+-- `inserted` characters; `first` is the paragraph after the first border
+pub record IsTouchedAlone (first : Option Layout) (front back : Border) (range : TextRange) (inserted : ℕ) (edited : Edited) : Type 0 where
+  pub alone : back.index ≡ front.index + 1
+  pub laid : first ≡ Some edited.laid.now
+  pub at : edited.edit.at ≡ range.pos - front.chars
+  pub removed : edited.edit.removed ≡ range.count
+  pub inserted_is : edited.edit.inserted ≡ inserted

@@ -1,7 +1,11 @@
 -- A text in three parts: the text before an edit, the inserted text, and the text after the edit.
-use Rattle.std.specs.Prelude.{ℕ, List, ◌++◌, length, replicate, Bool, Option}
+use Rattle.std.specs.Prelude.{ℕ, List, ◌++◌, length, replicate, Bool, Option, IfSome}
 use Rattle.std.specs.Str.{chars}
+use Rattle.lines.specs.Layouts.{Rules}
 use Rattle.lines.specs.Measures.{given_if}
+use Rattle.lines.specs.SameKind.{IsEdited}
+use Rattle.session.specs.Kept.{IsFresh}
+use Rattle.session.specs.declared.joined.Edited.{Edited}
 use Rattle.session.specs.declared.joined.Part.{Part}
 
 -- the text of the three parts, joined; the inserted text is given as UTF-8 bytes
@@ -12,3 +16,7 @@ joined_text front piece back = front.text.now ++ (chars piece ++ back.text.now)
 abbrev pub joined_advances : Bool → Part → List ℕ → Part → Option (List ℕ)
 joined_advances is_measured front piece back =
     given_if is_measured (front.advances.now ++ (replicate (length (chars piece)) 0 ++ back.advances.now))
+
+-- if a paragraph is given, it is laid out, and the edit makes the text of it
+abbrev pub BecomesBy : Rules → Option Edited → List ℕ → Type 0
+BecomesBy rules edited text = IfSome edited (λ e. IsFresh rules e.laid.now × IsEdited e.laid.now.text text e.edit)

@@ -11,7 +11,7 @@ ghost use Rattle.lines.specs.declared.engine.TheConstants.{PARAGRAPH_LIMIT};
 ghost use Rattle.session.specs.Sessions.{IsCountedFor};
 ghost use Rattle.session.specs.Edits.{is_within_limit, paragraphs_refusal, room_refusal};
 ghost use Rattle.bidi.specs.Cuts.{paragraphs};
-ghost use Rattle.session.specs.Joined.{joined_advances, joined_text};
+ghost use Rattle.session.specs.Joined.{joined_advances, joined_text, BecomesBy};
 ghost use Rattle.session.specs.Kept.{back_advances, front_advances, layouts_of, AreForEach};
 ghost use Rattle.session.specs.Sessions.{IsAnswerFor};
 ghost use Rattle.session.specs.declared.edits.EditFault.TheVariants.{NoMemory};
@@ -21,7 +21,7 @@ use crate::kept::Kept;
 use crate::room::has_room;
 use crate::scan::Scan;
 use bidi::paragraphs_are_pieces;
-use lines::{Engine, PARAGRAPH_LIMIT};
+use lines::{Engine, Laid, PARAGRAPH_LIMIT, Replacement};
 use std::alloc::{AllocError, Global};
 use stream::push_characters;
 
@@ -234,6 +234,67 @@ pub fn lay_out_owned(
     }
 }
 
+/// A laid-out paragraph, and which of its characters an edit replaces.
+#[derive(Clone, Copy, Debug)]
+pub struct Edited<'a> {
+    pub laid: &'a Laid,
+    pub edit: Replacement,
+}
+
+// Lays out one paragraph that an edit has made of a laid-out one. Its text and advances move into the layout.
+fn lay_out_edited(
+    alloc: Global,
+    engine: &mut Engine,
+    edited: Edited<'_>,
+    text: Vec<char>,
+    advances: Vec<u32>,
+    form: Form,
+) -> Result<Kept, AllocError>
+    requires edited { BecomesBy (rules_of engine.old) (Some edited) text.items }
+    requires paragraph { IsParagraph (rules_of engine.old) text.items }
+    requires width { 0 < form.width }
+    requires each { AreForEach (given_if form.is_measured advances.items) text.items }
+    requires room { HaveRoom (given_if form.is_measured advances.items) }
+    ensures ok { IfOk result (λ kept. kept ≡ layout_of (with_advances (rules_of engine.old)
+        (given_if form.is_measured advances.items)) form.width text.items) }
+    ensures rules { SameRules engine.old engine.new }
+    ensures counts { LaysOutAtMost (length text.items) engine.old engine.new }
+{
+    let Edited { laid, edit } = edited;
+    let width = form.width;
+    let laid = if form.is_measured {
+        engine.lay_out_measured_edited(alloc, laid, edit, text, advances, width)?
+    } else {
+        engine.lay_out_edited(alloc, laid, edit, text, width)?
+    };
+    Kept::new(alloc, laid)
+}
+
+// Lays out one paragraph, with `lay_out_edited` if an edit has made it of a laid-out one.
+fn lay_out_single(
+    alloc: Global,
+    engine: &mut Engine,
+    edited: Option<Edited<'_>>,
+    text: Vec<char>,
+    advances: Vec<u32>,
+    form: Form,
+) -> Result<Kept, AllocError>
+    requires edited { BecomesBy (rules_of engine.old) edited text.items }
+    requires paragraph { IsParagraph (rules_of engine.old) text.items }
+    requires width { 0 < form.width }
+    requires each { AreForEach (given_if form.is_measured advances.items) text.items }
+    requires room { HaveRoom (given_if form.is_measured advances.items) }
+    ensures ok { IfOk result (λ kept. kept ≡ layout_of (with_advances (rules_of engine.old)
+        (given_if form.is_measured advances.items)) form.width text.items) }
+    ensures rules { SameRules engine.old engine.new }
+    ensures counts { LaysOutAtMost (length text.items) engine.old engine.new }
+{
+    match edited {
+        Some(edited) => lay_out_edited(alloc, engine, edited, text, advances, form),
+        None => lay_out_owned(alloc, engine, text, advances, form),
+    }
+}
+
 // Frees the unused capacity of a list if this capacity exceeds 16 items plus an eighth of the length.
 fn trim(list: Vec<char>) -> Vec<char>
     ensures { result.items ≡ list.items }
@@ -246,14 +307,17 @@ fn trim(list: Vec<char>) -> Vec<char>
 }
 
 // Lays out each paragraph of a nonempty text once. A text that is a single paragraph moves into the layout.
+// If an edit has made the text of a single paragraph, `edited` is that paragraph.
 fn lay_out(
     alloc: Global,
     engine: &mut Engine,
+    edited: Option<Edited<'_>>,
     text: Vec<char>,
     advances: Vec<u32>,
     form: Form,
 ) -> Result<Vec<Kept>, AllocError>
     requires some { 0 < length text.items }
+    requires edited { BecomesBy (rules_of engine.old) edited text.items }
     requires within { is_within_limit (cut_by (rules_of engine.old)) text.items ≡ true }
     requires width { 0 < form.width }
     requires each { AreForEach (given_if form.is_measured advances.items) text.items }
@@ -276,7 +340,7 @@ fn lay_out(
         }
         None => {
             let mut kept = Vec::with_capacity(alloc, 1)?;
-            kept.push(lay_out_owned(alloc, engine, trim(text), advances, form)?)?;
+            kept.push(lay_out_single(alloc, engine, edited, trim(text), advances, form)?)?;
             Ok(kept)
         }
     }
@@ -345,12 +409,14 @@ fn lay_out_each(
 fn lay_out_parts(
     alloc: Global,
     engine: &mut Engine,
+    edited: Option<Edited<'_>>,
     front: &Part<'_>,
     piece: &str,
     back: &Part<'_>,
     form: Form,
 ) -> Result<Vec<Kept>, AllocError>
     requires some { 0 < length (joined_text front.now piece.now back.now) }
+    requires edited { BecomesBy (rules_of engine.old) edited (joined_text front.now piece.now back.now) }
     requires width { 0 < form.width }
     requires front { AreForEach (given_if form.is_measured front.now.advances.now) front.now.text.now }
     requires back { AreForEach (given_if form.is_measured back.now.advances.now) back.now.text.now }
@@ -367,20 +433,23 @@ fn lay_out_parts(
     let text = joined(alloc, engine, front.text, piece, back.text)?;
     let (is_measured, len) = (form.is_measured, text.len());
     let advances = joined_advances(alloc, is_measured, front.advances, len, back.advances)?;
-    lay_out(alloc, engine, text, advances, form)
+    lay_out(alloc, engine, edited, text, advances, form)
 }
 
 /// Lays out the paragraphs of the joined text, in which inserted characters have advance 0. Fails with
 /// `ParagraphTooLong`, without allocating, if a paragraph is too long or the sum of its advances is too
-/// large. Fails with `NoMemory` if an allocation fails.
+/// large. Fails with `NoMemory` if an allocation fails. If an edit has made the text of a single paragraph,
+/// `edited` is that paragraph.
 pub fn lay_out_joined(
     alloc: Global,
     engine: &mut Engine,
+    edited: Option<Edited<'_>>,
     front: &Part<'_>,
     piece: &str,
     back: &Part<'_>,
     form: Form,
 ) -> Result<Vec<Kept>, EditFault>
+    requires edited { BecomesBy (rules_of engine.old) edited (joined_text front.now piece.now back.now) }
     requires width { 0 < form.width }
     requires front { AreForEach (given_if form.is_measured front.now.advances.now) front.now.text.now }
     requires back { AreForEach (given_if form.is_measured back.now.advances.now) back.now.text.now }
@@ -409,7 +478,7 @@ pub fn lay_out_joined(
     if are_empty(front.text, piece, back.text) {
         return Ok(Vec::new(alloc));
     }
-    match lay_out_parts(alloc, engine, front, piece, back, form) {
+    match lay_out_parts(alloc, engine, edited, front, piece, back, form) {
         Ok(kept) => Ok(kept),
         Err(_) => Err(EditFault::NoMemory),
     }

@@ -1,6 +1,6 @@
 //! Edits the text in a store. Everything that can fail happens before the store is changed.
 ghost use Rattle.std.specs.Prelude.{◌≡◌, ◌+◌, ◌-◌, ◌^◌, ◌<◌, ◌≤◌, List, ℕ, length, sum_by};
-ghost use Rattle.std.specs.Prelude.{IfOk, IfErr, IsErrOf, OnOk, OnErr};
+ghost use Rattle.std.specs.Prelude.{option_map, IfOk, IfErr, IfSome, IsErrOf, OnOk, OnErr};
 ghost use Rattle.std.specs.List.{splice};
 ghost use Rattle.std.specs.Str.{chars};
 ghost use Rattle.session.specs.Changes.{AreFound};
@@ -9,16 +9,16 @@ ghost use Rattle.session.specs.Edits.{replacing};
 ghost use Rattle.session.specs.Kept.{text_of};
 ghost use Rattle.session.specs.Offsets.{length_in};
 ghost use Rattle.session.specs.declared.offsets.Encoding.TheVariants.{Utf8, Utf16};
-ghost use Rattle.session.specs.Borders.{damage_between, IsBorder};
+ghost use Rattle.session.specs.Borders.{damage_between, IsBorder, IsTouchedAlone};
 ghost use Rattle.session.specs.declared.edits.EditFault.TheVariants.{NoMemory};
 
 use crate::borders::{Border, back_part, front_border, front_part, last_touched};
 use crate::changed::{same_ends, without_same};
 use crate::edits::{ChangedLines, Damage, EditFault, TEXT_LIMIT, TextRange};
-use crate::joined::{Form, lay_out_joined};
+use crate::joined::{Edited, Form, lay_out_joined};
 use crate::kept::Kept;
 use bidi::paragraphs_are_pieces;
-use lines::{Engine, lines_are_few};
+use lines::{Engine, Replacement, lines_are_few};
 use std::alloc::Global;
 use store::ParagraphStore;
 
@@ -83,6 +83,34 @@ pub fn put<S: ParagraphStore<Kept>>(
     Ok(damage)
 }
 
+// Returns the paragraph that an edit touches if it is the only one, and otherwise `None`. The edit replaces
+// the characters of a range with `inserted` characters. `first` is the first touched paragraph, and `front`
+// and `back` are the borders around the touched paragraphs.
+fn edited_paragraph(
+    first: Option<&Kept>,
+    front: Border,
+    back: Border,
+    range: TextRange,
+    inserted: usize,
+) -> Option<Edited<'_>>
+    requires { front.chars ≤ range.pos }
+    ensures { IfSome result
+        (IsTouchedAlone (option_map (λ kept. kept.now) first.entry) front back range inserted) }
+{
+    if back.index <= front.index || back.index - front.index > 1 {
+        return None;
+    }
+    let kept = first?;
+    Some(Edited {
+        laid: kept.laid(),
+        edit: Replacement {
+            at: range.pos - front.chars,
+            removed: range.count,
+            inserted,
+        },
+    })
+}
+
 /// Replaces the characters of a range with `piece`. Fails with the first of `OutOfRange`, `TextTooLong` and
 /// `ParagraphTooLong` that applies, or with `NoMemory` if an allocation fails.
 pub fn replace<S: ParagraphStore<Kept>>(
@@ -112,8 +140,8 @@ pub fn replace<S: ParagraphStore<Kept>>(
     if pos > len || count > len - pos {
         return Err(EditFault::OutOfRange);
     }
-    let end = pos + count;
-    if len - count + piece.chars().count() > TEXT_LIMIT {
+    let (end, inserted) = (pos + count, piece.chars().count());
+    if len - count + inserted > TEXT_LIMIT {
         return Err(EditFault::TextTooLong);
     }
     // By these theorems, the paragraphs that the edit does not touch stay the same, and the sum of lines does
@@ -128,7 +156,8 @@ pub fn replace<S: ParagraphStore<Kept>>(
         front_part(first, front, pos),
         back_part(last, end),
     );
-    let new = match lay_out_joined(alloc, engine, &before, piece, &after, form) {
+    let edited = edited_paragraph(first, front, back, range, inserted);
+    let new = match lay_out_joined(alloc, engine, edited, &before, piece, &after, form) {
         Ok(new) => new,
         Err(fault) => return Err(fault),
     };

@@ -18,6 +18,7 @@ use Rattle.session.proofs.EditLemmas.{back_each, front_each, rise, chars_fit, li
 use Rattle.session.proofs.UnitLemmas.{utf8_few, utf16_few}
 use Rattle.session.proofs.RefusalLemmas.{allowed-length, refusal-too_long}
 use Rattle.session.specs.declared.edits.TheConstants.{TEXT_LIMIT}
+use Rattle.session.proofs.TouchedAloneLemmas.{becomes}
 use Rattle.session.proofs.WantLemmas.{fault_in, of_err, some_joined, some_put}
 use Rattle.session.proofs.replace.replace.Goals as goal
 use Rattle.session.proofs.replace.replace.Goals.{then-pos-len-via-then-pos-len, then-pos-len-via-else-pos-len+then-count-len}
@@ -41,7 +42,7 @@ overflow_add-len g c =
     let piece = chars c.args.piece.now in
     let size : c.total_chars-len.result ≡ length (text_of kept) = c.total_chars-len.ensures ∙ sym (length-text kept) in
     let most = allowed-length (cut_by (rules_of c.args.engine.now)) (advances_in c.args.form.is_measured kept) (text_of kept) c.requires.allowed in
-    omega (arith, size, most, c.count.ensures.bound, c.chars.ensures.len)
+    omega (arith, size, most, c.count-inserted.ensures.bound, c.chars.ensures.len)
 
 pub returns-then-len-count-gt-TEXT_LIMIT-clause-err : goal.returns-then-len-count-gt-TEXT_LIMIT-clause-err
 returns-then-len-count-gt-TEXT_LIMIT-clause-err g c =
@@ -49,7 +50,7 @@ returns-then-len-count-gt-TEXT_LIMIT-clause-err g c =
     let piece = chars c.args.piece.now in
     let size : c.total_chars-len.result ≡ length (text_of kept) = c.total_chars-len.ensures ∙ sym (length-text kept) in
     let within : c.args.range.pos + c.args.range.count ≤ length (text_of kept) = omega (arith, size) in
-    let n : c.count.result ≡ length piece = count_from_yields_List c.chars.result c.count.result c.count.ensures.ran (YieldsList-from_chars c.args.piece.now c.utf8.piece cc) in
+    let n : c.count-inserted.result ≡ length piece = count_from_yields_List c.chars.result c.count-inserted.result c.count-inserted.ensures.ran (YieldsList-from_chars c.args.piece.now c.utf8.piece cc) in
     let state : SessionState = state_of c.args.engine.now c.args.form.width c.args.form.is_measured kept in
     EditsNot-unchanged (replacing c.args.range.pos c.args.range.count piece) state TextTooLong c.requires
     (refusal-too_long (cut_by (rules_of c.args.engine.now)) (advances_in c.args.form.is_measured kept) (text_of kept) piece c.args.range.pos c.args.range.count within (omega (arith, size, n))) refl
@@ -93,13 +94,25 @@ lay_out_joined-requires-clause-back g c =
     subst (λ (t : List ℕ). AreForEach (given_if c.args.form.is_measured c.back_part-after.result.advances.now) t) (sym (c.back_part-after.ensures.text kept c.last_touched-last.ensures.kept _ refl))
     (subst (λ (l : List ℕ). AreForEach (given_if c.args.form.is_measured l) (back_of (pars_of kept) c.last_touched-last.result.end (c.args.range.pos + c.args.range.count))) (sym (c.back_part-after.ensures.advances kept c.last_touched-last.ensures.kept _ refl)) each)
 
+pub lay_out_joined-requires-clause-edited : goal.lay_out_joined-requires-clause-edited
+lay_out_joined-requires-clause-edited g c =
+    let kept = g.S.ParagraphStore.items c.args.store.now in
+    let piece = chars c.args.piece.now in
+    let size : c.total_chars-len.result ≡ length (text_of kept) = c.total_chars-len.ensures ∙ sym (length-text kept) in
+    let within : c.args.range.pos + c.args.range.count ≤ length (text_of kept) = omega (arith, size) in
+    let n : c.count-inserted.result ≡ length piece = count_from_yields_List c.chars.result c.count-inserted.result c.count-inserted.ensures.ran (YieldsList-from_chars c.args.piece.now c.utf8.piece cc) in
+    becomes c.paragraphs_are_pieces.ensures c.args.engine.now c.args.form.width c.args.form.is_measured kept c.requires c.args.range piece c.count-inserted.result n within
+    c.front_border-front.result c.last_touched-last.result.end c.front_border-front.ensures c.last_touched-last.ensures.end _ c.get-first.ensures
+    c.front_part-before.result.text.now c.back_part-after.result.text.now (c.front_part-before.ensures.text kept c.get-first.ensures) (c.back_part-after.ensures.text kept c.last_touched-last.ensures.kept _ refl)
+    c.edited_paragraph-edited.result c.edited_paragraph-edited.ensures
+
 pub returns-in-Err-clause-err : goal.returns-in-Err-clause-err
 returns-in-Err-clause-err g c =
     let kept = g.S.ParagraphStore.items c.args.store.now in
     let piece = chars c.args.piece.now in
     let size : c.total_chars-len.result ≡ length (text_of kept) = c.total_chars-len.ensures ∙ sym (length-text kept) in
     let within : c.args.range.pos + c.args.range.count ≤ length (text_of kept) = omega (arith, size) in
-    let n : c.count.result ≡ length piece = count_from_yields_List c.chars.result c.count.result c.count.ensures.ran (YieldsList-from_chars c.args.piece.now c.utf8.piece cc) in
+    let n : c.count-inserted.result ≡ length piece = count_from_yields_List c.chars.result c.count-inserted.result c.count-inserted.ensures.ran (YieldsList-from_chars c.args.piece.now c.utf8.piece cc) in
     let short : length (text_of kept) - c.args.range.count + length piece ≤ TEXT_LIMIT = omega (arith, size, n) in
     let parts = ap₂ (λ xs ys. xs ++ (piece ++ ys)) (c.front_part-before.ensures.text kept c.get-first.ensures) (c.back_part-after.ensures.text kept c.last_touched-last.ensures.kept _ refl) in
     let given = ap₂ (λ xs ys. given_if c.args.form.is_measured (xs ++ (replicate (length piece) 0 ++ ys))) (c.front_part-before.ensures.advances kept c.get-first.ensures) (c.back_part-after.ensures.advances kept c.last_touched-last.ensures.kept _ refl) in
@@ -138,7 +151,7 @@ put-requires-clause-chars_fit g c =
     let piece = chars c.args.piece.now in
     let size : c.total_chars-len.result ≡ length (text_of kept) = c.total_chars-len.ensures ∙ sym (length-text kept) in
     let within : c.args.range.pos + c.args.range.count ≤ length (text_of kept) = omega (arith, size) in
-    let n : c.count.result ≡ length piece = count_from_yields_List c.chars.result c.count.result c.count.ensures.ran (YieldsList-from_chars c.args.piece.now c.utf8.piece cc) in
+    let n : c.count-inserted.result ≡ length piece = count_from_yields_List c.chars.result c.count-inserted.result c.count-inserted.ensures.ran (YieldsList-from_chars c.args.piece.now c.utf8.piece cc) in
     let short : length (text_of kept) - c.args.range.count + length piece ≤ TEXT_LIMIT = omega (arith, size, n) in
     let parts = ap₂ (λ xs ys. xs ++ (piece ++ ys)) (c.front_part-before.ensures.text kept c.get-first.ensures) (c.back_part-after.ensures.text kept c.last_touched-last.ensures.kept _ refl) in
     let given = ap₂ (λ xs ys. given_if c.args.form.is_measured (xs ++ (replicate (length piece) 0 ++ ys))) (c.front_part-before.ensures.advances kept c.get-first.ensures) (c.back_part-after.ensures.advances kept c.last_touched-last.ensures.kept _ refl) in
@@ -155,7 +168,7 @@ put-requires-clause-bytes_fit g c =
     let piece = chars c.args.piece.now in
     let size : c.total_chars-len.result ≡ length (text_of kept) = c.total_chars-len.ensures ∙ sym (length-text kept) in
     let within : c.args.range.pos + c.args.range.count ≤ length (text_of kept) = omega (arith, size) in
-    let n : c.count.result ≡ length piece = count_from_yields_List c.chars.result c.count.result c.count.ensures.ran (YieldsList-from_chars c.args.piece.now c.utf8.piece cc) in
+    let n : c.count-inserted.result ≡ length piece = count_from_yields_List c.chars.result c.count-inserted.result c.count-inserted.ensures.ran (YieldsList-from_chars c.args.piece.now c.utf8.piece cc) in
     let short : length (text_of kept) - c.args.range.count + length piece ≤ TEXT_LIMIT = omega (arith, size, n) in
     let parts = ap₂ (λ xs ys. xs ++ (piece ++ ys)) (c.front_part-before.ensures.text kept c.get-first.ensures) (c.back_part-after.ensures.text kept c.last_touched-last.ensures.kept _ refl) in
     let given = ap₂ (λ xs ys. given_if c.args.form.is_measured (xs ++ (replicate (length piece) 0 ++ ys))) (c.front_part-before.ensures.advances kept c.get-first.ensures) (c.back_part-after.ensures.advances kept c.last_touched-last.ensures.kept _ refl) in
@@ -172,7 +185,7 @@ put-requires-clause-utf16_fit g c =
     let piece = chars c.args.piece.now in
     let size : c.total_chars-len.result ≡ length (text_of kept) = c.total_chars-len.ensures ∙ sym (length-text kept) in
     let within : c.args.range.pos + c.args.range.count ≤ length (text_of kept) = omega (arith, size) in
-    let n : c.count.result ≡ length piece = count_from_yields_List c.chars.result c.count.result c.count.ensures.ran (YieldsList-from_chars c.args.piece.now c.utf8.piece cc) in
+    let n : c.count-inserted.result ≡ length piece = count_from_yields_List c.chars.result c.count-inserted.result c.count-inserted.ensures.ran (YieldsList-from_chars c.args.piece.now c.utf8.piece cc) in
     let short : length (text_of kept) - c.args.range.count + length piece ≤ TEXT_LIMIT = omega (arith, size, n) in
     let parts = ap₂ (λ xs ys. xs ++ (piece ++ ys)) (c.front_part-before.ensures.text kept c.get-first.ensures) (c.back_part-after.ensures.text kept c.last_touched-last.ensures.kept _ refl) in
     let given = ap₂ (λ xs ys. given_if c.args.form.is_measured (xs ++ (replicate (length piece) 0 ++ ys))) (c.front_part-before.ensures.advances kept c.get-first.ensures) (c.back_part-after.ensures.advances kept c.last_touched-last.ensures.kept _ refl) in
@@ -189,7 +202,7 @@ put-requires-clause-lines_fit g c =
     let piece = chars c.args.piece.now in
     let size : c.total_chars-len.result ≡ length (text_of kept) = c.total_chars-len.ensures ∙ sym (length-text kept) in
     let within : c.args.range.pos + c.args.range.count ≤ length (text_of kept) = omega (arith, size) in
-    let n : c.count.result ≡ length piece = count_from_yields_List c.chars.result c.count.result c.count.ensures.ran (YieldsList-from_chars c.args.piece.now c.utf8.piece cc) in
+    let n : c.count-inserted.result ≡ length piece = count_from_yields_List c.chars.result c.count-inserted.result c.count-inserted.ensures.ran (YieldsList-from_chars c.args.piece.now c.utf8.piece cc) in
     let short : length (text_of kept) - c.args.range.count + length piece ≤ TEXT_LIMIT = omega (arith, size, n) in
     let parts = ap₂ (λ xs ys. xs ++ (piece ++ ys)) (c.front_part-before.ensures.text kept c.get-first.ensures) (c.back_part-after.ensures.text kept c.last_touched-last.ensures.kept _ refl) in
     let given = ap₂ (λ xs ys. given_if c.args.form.is_measured (xs ++ (replicate (length piece) 0 ++ ys))) (c.front_part-before.ensures.advances kept c.get-first.ensures) (c.back_part-after.ensures.advances kept c.last_touched-last.ensures.kept _ refl) in
@@ -206,7 +219,7 @@ returns-clause-ok g c =
     let piece = chars c.args.piece.now in
     let size : c.total_chars-len.result ≡ length (text_of kept) = c.total_chars-len.ensures ∙ sym (length-text kept) in
     let within : c.args.range.pos + c.args.range.count ≤ length (text_of kept) = omega (arith, size) in
-    let n : c.count.result ≡ length piece = count_from_yields_List c.chars.result c.count.result c.count.ensures.ran (YieldsList-from_chars c.args.piece.now c.utf8.piece cc) in
+    let n : c.count-inserted.result ≡ length piece = count_from_yields_List c.chars.result c.count-inserted.result c.count-inserted.ensures.ran (YieldsList-from_chars c.args.piece.now c.utf8.piece cc) in
     let short : length (text_of kept) - c.args.range.count + length piece ≤ TEXT_LIMIT = omega (arith, size, n) in
     let parts = ap₂ (λ xs ys. xs ++ (piece ++ ys)) (c.front_part-before.ensures.text kept c.get-first.ensures) (c.back_part-after.ensures.text kept c.last_touched-last.ensures.kept _ refl) in
     let given = ap₂ (λ xs ys. given_if c.args.form.is_measured (xs ++ (replicate (length piece) 0 ++ ys))) (c.front_part-before.ensures.advances kept c.get-first.ensures) (c.back_part-after.ensures.advances kept c.last_touched-last.ensures.kept _ refl) in
@@ -232,7 +245,7 @@ returns-clause-err g c =
     let piece = chars c.args.piece.now in
     let size : c.total_chars-len.result ≡ length (text_of kept) = c.total_chars-len.ensures ∙ sym (length-text kept) in
     let within : c.args.range.pos + c.args.range.count ≤ length (text_of kept) = omega (arith, size) in
-    let n : c.count.result ≡ length piece = count_from_yields_List c.chars.result c.count.result c.count.ensures.ran (YieldsList-from_chars c.args.piece.now c.utf8.piece cc) in
+    let n : c.count-inserted.result ≡ length piece = count_from_yields_List c.chars.result c.count-inserted.result c.count-inserted.ensures.ran (YieldsList-from_chars c.args.piece.now c.utf8.piece cc) in
     let short : length (text_of kept) - c.args.range.count + length piece ≤ TEXT_LIMIT = omega (arith, size, n) in
     let parts = ap₂ (λ xs ys. xs ++ (piece ++ ys)) (c.front_part-before.ensures.text kept c.get-first.ensures) (c.back_part-after.ensures.text kept c.last_touched-last.ensures.kept _ refl) in
     let given = ap₂ (λ xs ys. given_if c.args.form.is_measured (xs ++ (replicate (length piece) 0 ++ ys))) (c.front_part-before.ensures.advances kept c.get-first.ensures) (c.back_part-after.ensures.advances kept c.last_touched-last.ensures.kept _ refl) in

@@ -1,0 +1,158 @@
+//! Lays out paragraphs that an edit has made of laid-out ones.
+ghost use Rattle.std.specs.Prelude.{◌≡◌, ◌^◌, ◌<◌, ◌≤◌, List, None, Some, length, option_map, sum};
+ghost use Rattle.std.specs.Prelude.{IfOk, OnOk};
+ghost use Rattle.lines.specs.Buffers.{held_in, held_lines, AreSound};
+ghost use Rattle.lines.specs.Engine.{rules_of, Fills, FillsAtMost, LaysOutAtMost, SameRules};
+ghost use Rattle.lines.specs.Layouts.{AreWithin, HaveRoom, IsLaidOut, IsParagraph};
+ghost use Rattle.lines.specs.Layouts.{fill_of, layout_of, with_advances};
+ghost use Rattle.lines.specs.SameKind.{IsEdited, IsInRun, IsRunEdit};
+ghost use Rattle.lines.specs.declared.engine.TheConstants.{PARAGRAPH_LIMIT};
+
+use crate::buffers::LayoutBuffers;
+use crate::engine::Engine;
+use crate::fill::Fill;
+use crate::laid::{Laid, put_all_widths, with_room};
+use crate::paragraph::LentRules;
+use crate::same_kind::{Replacement, RunEdit, run_of};
+use crate::workspace::ready;
+use std::alloc::{AllocError, Global};
+
+impl Engine {
+    /// Lays out a paragraph that an edit has made of a laid-out one, with the same result as `lay_out`. If
+    /// all inserted and removed characters are of the same kind as a character next to them, copies the
+    /// levels and break marks, and analyses nothing. This requires a kind that can be doubled (see
+    /// `bidi::doubling_keeps_levels` and `breaks::doubling_keeps_marks`). The old paragraph must have been
+    /// laid out with this engine's tables and options.
+    pub fn lay_out_edited(
+        &mut self,
+        alloc: Global,
+        old: &Laid,
+        edit: Replacement,
+        text: Vec<char>,
+        width: u32,
+    ) -> Result<Laid, AllocError>
+        requires laid { IsLaidOut (with_advances (rules_of self.old) old.now.advances) old.now }
+        requires edit { IsEdited old.now.text text.items edit }
+        requires paragraph { IsParagraph (rules_of self.old) text.items }
+        requires width { 0 < width }
+        ensures ok { IfOk result (λ laid. laid ≡ layout_of (rules_of self.old) width text.items) }
+        ensures run { IfOk result (λ laid. IsInRun (rules_of self.old).tables old.now.text text.items edit
+            → Fills (length text.items) self.old self.new) }
+        ensures at_most { LaysOutAtMost (length text.items) self.old self.new }
+
+        // The engine's own rules are those for text that is not measured.
+        ensures unmeasured { (rules_of self.old).advances ≡ None }
+        ensures rules { SameRules self.old self.new }
+    {
+        let Some(run) = run_of(&self.tables, old.text(), &text, edit) else {
+            return match self.lay_out(alloc, text, width) {
+                Ok(laid) => Ok(laid),
+                Err((_text, error)) => Err(error),
+            };
+        };
+        let mut lists = LayoutBuffers::new(alloc);
+        let base = self.fill_run(alloc, old, run, &text, None, width, &mut lists)?;
+        Ok(Laid {
+            text,
+            base,
+            tab_width: self.tab_width(),
+            is_measured: false,
+            sizes: Vec::new(alloc),
+            levels: lists.levels,
+            marks: lists.marks,
+            ends: lists.ends,
+            lines: Fill::of(lists.lines),
+        })
+    }
+
+    /// Lays out a measured paragraph that an edit has made of a laid-out one, with the same result as
+    /// `lay_out_measured`. Analyses nothing in the cases in which `lay_out_edited` analyses nothing.
+    pub fn lay_out_measured_edited(
+        &mut self,
+        alloc: Global,
+        old: &Laid,
+        edit: Replacement,
+        text: Vec<char>,
+        advances: Vec<u32>,
+        width: u32,
+    ) -> Result<Laid, AllocError>
+        requires laid { IsLaidOut (with_advances (rules_of self.old) old.now.advances) old.now }
+        requires edit { IsEdited old.now.text text.items edit }
+        requires paragraph { IsParagraph (rules_of self.old) text.items }
+        requires width { 0 < width }
+        requires len { length advances.items ≡ length text.items }
+        requires room { sum advances.items < 2 ^ 32 }
+        ensures ok { IfOk result (λ laid. laid
+            ≡ layout_of (with_advances (rules_of self.old) (Some advances.items)) width text.items) }
+        ensures run { IfOk result (λ laid. IsInRun (rules_of self.old).tables old.now.text text.items edit
+            → Fills (length text.items) self.old self.new) }
+        ensures at_most { LaysOutAtMost (length text.items) self.old self.new }
+        ensures rules { SameRules self.old self.new }
+    {
+        let Some(run) = run_of(&self.tables, old.text(), &text, edit) else {
+            return self.lay_out_measured(alloc, text, advances, width);
+        };
+        let mut lists = LayoutBuffers::new(alloc);
+        let base = self.fill_run(alloc, old, run, &text, Some(&advances), width, &mut lists)?;
+        let tab_width = self.tab_width();
+        let lines = Fill::of(lists.lines);
+        let mut sizes = with_room(advances, tab_width)?;
+        put_all_widths(true, &text, tab_width, &lines, &mut sizes);
+        Ok(Laid {
+            text,
+            base,
+            tab_width,
+            is_measured: true,
+            sizes,
+            levels: lists.levels,
+            marks: lists.marks,
+            ends: lists.ends,
+            lines,
+        })
+    }
+
+    // Does the same as `fill_lists` for a paragraph that a run edit has made of a laid-out one, but analyses
+    // nothing.
+    fn fill_run(
+        &mut self,
+        alloc: Global,
+        old: &Laid,
+        run: RunEdit,
+        text: &[char],
+        advances: Option<&[u32]>,
+        width: u32,
+        lists: &mut LayoutBuffers,
+    ) -> Result<u8, AllocError>
+        requires laid { IsLaidOut (with_advances (rules_of self.old) old.now.advances) old.now }
+        requires run { IsRunEdit (rules_of self.old).tables old.now.text text.now run }
+        requires limit { length text.now ≤ PARAGRAPH_LIMIT }
+        requires room { HaveRoom (option_map (λ list. list.now) advances) }
+        ensures base { IfOk result (λ base. base ≡ (layout_of (rules_of self.old) width text.now).base) }
+        ensures levels { OnOk result
+            (lists.new.levels.items ≡ (layout_of (rules_of self.old) width text.now).levels) }
+        ensures marks { OnOk result
+            (lists.new.marks.items ≡ (layout_of (rules_of self.old) width text.now).marks) }
+        ensures ends { OnOk result
+            (lists.new.ends.items ≡ (layout_of (rules_of self.old) width text.now).ends) }
+        ensures lines { OnOk result (held_in lists.new.lines
+            ≡ fill_of (with_advances (rules_of self.old)
+            (option_map (λ list. list.now) advances.entry)) width text.now) }
+        ensures sound { OnOk result (AreSound lists.new.lines) }
+        ensures unmeasured { (rules_of self.old).advances ≡ None }
+        ensures len { OnOk result (length lists.new.levels.items ≡ length text.now) }
+        ensures within { OnOk result (AreWithin (length text.now) (held_lines lists.new.lines)) }
+        ensures counts { OnOk result (Fills (length text.now) self.old self.new) }
+        ensures at_most { FillsAtMost (length text.now) self.old self.new }
+        ensures rules { SameRules self.old self.new }
+    {
+        let work = ready(&mut self.work, alloc)?;
+        work.lend_lists(text.len(), lists);
+        let counts = &mut self.counts;
+        let rules = LentRules {
+            tables: &self.tables,
+            options: self.options,
+        };
+        let base = work.lay_out_run(&rules, old, run, text, advances, width, lists, counts)?;
+        Ok(base)
+    }
+}
