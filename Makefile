@@ -269,6 +269,7 @@ bench: bench-program c fribidi ucd parallel
 	bench/script
 	bench/c
 	bench/strings
+	bench/typing
 	bench/memory
 	bench/python
 	bench/rust

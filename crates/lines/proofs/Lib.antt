@@ -39,6 +39,7 @@ pub mod ShownPartLemmas
 mod SizedLemmas
 pub mod SkippedLemmas
 mod SpanLemmas
+pub mod SplicingLemmas
 mod SplitLemmas
 mod StayLemmas
 pub mod StayingLemmas

@@ -15,6 +15,7 @@ pub mod Counts
 pub mod Engine
 pub mod Extents
 pub mod Filling
+pub mod HeldLayouts
 pub mod Kept
 pub mod KnownWidths
 pub mod LaidTexts
@@ -34,6 +35,7 @@ pub mod Separators
 pub mod Showing
 pub mod ShownParts
 pub mod Spans
+pub mod Splicing
 pub mod FitsUpTo
 pub mod TabStops
 pub mod Tabs

@@ -105,6 +105,7 @@ impl Engine {
     ghost use Rattle.lines.specs.Engine.{Fills, FillsAtMost, FindsExtents, FindsExtentsAtMost};
     ghost use Rattle.lines.specs.Engine.{LaysOut, LaysOutAtMost, Prints, Rewrites, RewritesAtMost};
     ghost use Rattle.lines.specs.Engine.{SameRules};
+    ghost use Rattle.lines.specs.HeldLayouts.{HoldsLayout};
     ghost use Rattle.lines.specs.Tabs.{tab_width_in};
 
     /// Creates an engine whose counters are 0. Allocates nothing.
@@ -683,20 +684,9 @@ impl Engine {
     ) -> Result<u8, AllocError>
         requires limit { length text.now ≤ PARAGRAPH_LIMIT }
         requires room { HaveRoom (option_map (λ list. list.now) advances) }
-        ensures base { IfOk result (λ base. base ≡ (layout_of (rules_of self.old) width text.now).base) }
-        ensures levels { OnOk result
-            (lists.new.levels.items ≡ (layout_of (rules_of self.old) width text.now).levels) }
-        ensures marks { OnOk result
-            (lists.new.marks.items ≡ (layout_of (rules_of self.old) width text.now).marks) }
-        ensures ends { OnOk result
-            (lists.new.ends.items ≡ (layout_of (rules_of self.old) width text.now).ends) }
-        ensures lines { OnOk result (held_in lists.new.lines
-            ≡ fill_of (with_advances (rules_of self.old)
-            (option_map (λ list. list.now) advances.entry)) width text.now) }
-        ensures sound { OnOk result (AreSound lists.new.lines) }
+        ensures layout { IfOk result (λ base. HoldsLayout (with_advances (rules_of self.old)
+            (option_map (λ list. list.now) advances.entry)) width text.now base lists.new) }
         ensures unmeasured { (rules_of self.old).advances ≡ None }
-        ensures len { OnOk result (length lists.new.levels.items ≡ length text.now) }
-        ensures within { OnOk result (AreWithin (length text.now) (held_lines lists.new.lines)) }
         ensures counts { OnOk result (LaysOut (length text.now) self.old self.new) }
         ensures unwritten { OnErr result (written_of self.new ≡ written_of self.old) }
         ensures at_most { LaysOutAtMost (length text.now) self.old self.new }

@@ -1,8 +1,9 @@
 //! Theorems about all layouts.
 ghost use Rattle.std.specs.Prelude.{◌≡◌, ◌⊎◌, ◌≤◌, ℕ, Bool, false, true, List, length, map, slice_get};
-ghost use Rattle.std.specs.Prelude.{slice_index, sum_by, take, All, Some};
+ghost use Rattle.std.specs.Prelude.{slice_index, sum_by, take, All, Option, Some};
 ghost use Rattle.std.specs.List.{flat_map};
 ghost use Rattle.reorder.specs.Runs.{runs_of};
+ghost use Rattle.ucd.specs.declared.tables.Tables.{Tables};
 ghost use Rattle.lines.specs.Bytes.{line_bytes};
 ghost use Rattle.lines.specs.Clusters.{cluster_ends};
 ghost use Rattle.lines.specs.Columns.{run_columns};
@@ -10,9 +11,11 @@ ghost use Rattle.lines.specs.Layouts.{Layout, Rules, layout_of, lines_of, start_
 ghost use Rattle.lines.specs.Ordered.{ClustersAdjoin, IsOrdered, MarksStay, RunsAdjoin};
 ghost use Rattle.lines.specs.Pages.{layout_bytes};
 ghost use Rattle.lines.specs.Refilling.{StartsFollow, StartsSplice, StartsStay};
+ghost use Rattle.lines.specs.Splicing.{LinesSplice};
 ghost use Rattle.lines.specs.TabStops.{TabsEndAtStops};
 ghost use Rattle.lines.specs.Visual.{Visual};
 ghost use Rattle.lines.specs.declared.char_info.CharInfo.{CharInfo};
+ghost use Rattle.lines.specs.declared.options.Options.{Options};
 ghost use Rattle.lines.specs.declared.printing.print.Print.{Print};
 
 use breaks::paragraphs_end_at_must;
@@ -107,4 +110,11 @@ pub fn earlier_lines_stay()
 pub fn line_starts_are_spliced()
     ensures { (nobreak : Bool) (width : ℕ) (before after : List CharInfo) (n : ℕ)
         → take n before ≡ take n after → StartsSplice nobreak width before after n }
+{}
+
+/// States, as a theorem, how the lines of a changed paragraph follow from its old lines and from those of the
+/// changed part, given where its lines start. Costs nothing at run time.
+pub fn lines_are_spliced()
+    ensures { (tables : Tables) (options : Options) (margin : Option ℕ) (base : ℕ)
+        → LinesSplice tables options margin base }
 {}

@@ -20,7 +20,7 @@ use crate::laid::Laid;
 use crate::one_line::one_line;
 use crate::paragraph::{LentRules, Paragraph, Text};
 use crate::properties::fill_properties;
-use crate::same_kind::{RunEdit, put_levels, put_marks};
+use crate::same_kind::{RunChange, put_levels, put_marks};
 use crate::showing::show_lines;
 use crate::sizes::Ruler;
 use crate::workspace::{Workspace, fill_ends, fill_marks};
@@ -39,8 +39,8 @@ impl Workspace {
     ghost use Rattle.lines.specs.Paragraphs.{rules_in};
     ghost use Rattle.lines.specs.Reordering.{ends_by};
     ghost use Rattle.lines.specs.Counts.{FillsAll, FillsSome};
-    ghost use Rattle.lines.specs.Layouts.{IsLaidOut};
-    ghost use Rattle.lines.specs.SameKind.{IsRunEdit};
+    ghost use Rattle.lines.specs.HeldLayouts.{HoldsLayout};
+    ghost use Rattle.lines.specs.SameKind.{MakesText};
 
     /// Lays out a paragraph. Returns its base level, and replaces the contents of `kept` with the rest of its
     /// layout.
@@ -55,19 +55,8 @@ impl Workspace {
     ) -> Result<u8, AllocError>
         requires limit { length text.now ≤ PARAGRAPH_LIMIT }
         requires room { HaveRoom (option_map (λ list. list.now) advances) }
-        ensures base { IfOk result (λ base. base ≡ base_of (rules_in rules.now) text.now) }
-        ensures levels { OnOk result (kept.new.levels.items
-            ≡ levels_of rules.now.tables.now text.now rules.now.options.base) }
-        ensures marks { OnOk result (kept.new.marks.items
-            ≡ marks_of rules.now.tables.now rules.now.options.whole_numbers text.now) }
-        ensures ends { OnOk result (kept.new.ends.items ≡ ends_by rules.now.options text.now) }
-        ensures lines { OnOk result (held_lines kept.new.lines
-            ≡ lines_of (with_advances (rules_in rules.now) (option_map (λ list. list.now) advances.entry))
-            width text.now) }
-        ensures len { OnOk result (length kept.new.levels.items ≡ length text.now) }
-        ensures sound { OnOk result (AreSound kept.new.lines) }
-        ensures within { OnOk result (AreWithin (length text.now) (held_lines kept.new.lines)) }
-        ensures lines_len { OnOk result (length kept.new.lines.visual.levels.items ≡ length text.now) }
+        ensures layout { IfOk result (λ base. HoldsLayout (with_advances (rules_in rules.now)
+            (option_map (λ list. list.now) advances.entry)) width text.now base kept.new) }
         ensures counts { OnOk result (LaysOutAll (length text.now) counts.old counts.new) }
         ensures unwritten { OnErr result (counts.new.written ≡ counts.old.written) }
         ensures at_most { LaysOutSome (length text.now) counts.old counts.new }
@@ -104,43 +93,34 @@ impl Workspace {
     pub(crate) fn lay_out_run(
         &mut self,
         rules: &LentRules<'_>,
-        old: &Laid,
-        run: RunEdit,
+        change: RunChange<'_>,
         text: &[char],
-        advances: Option<&[u32]>,
-        width: u32,
+        ruler: Ruler<Option<&[u32]>>,
         kept: &mut LayoutBuffers,
         counts: &mut Counts,
     ) -> Result<u8, AllocError>
-        requires laid { IsLaidOut (with_advances (rules_in rules.now) old.now.advances) old.now }
-        requires run { IsRunEdit rules.now.tables.now old.now.text text.now run }
+        requires change { MakesText (rules_in rules.now) change text.now }
         requires limit { length text.now ≤ PARAGRAPH_LIMIT }
-        requires room { HaveRoom (option_map (λ list. list.now) advances) }
-        ensures base { IfOk result (λ base. base ≡ base_of (rules_in rules.now) text.now) }
-        ensures levels { OnOk result (kept.new.levels.items
-            ≡ levels_of rules.now.tables.now text.now rules.now.options.base) }
-        ensures marks { OnOk result (kept.new.marks.items
-            ≡ marks_of rules.now.tables.now rules.now.options.whole_numbers text.now) }
-        ensures ends { OnOk result (kept.new.ends.items ≡ ends_by rules.now.options text.now) }
-        ensures lines { OnOk result (held_lines kept.new.lines
-            ≡ lines_of (with_advances (rules_in rules.now) (option_map (λ list. list.now) advances.entry))
-            width text.now) }
-        ensures len { OnOk result (length kept.new.levels.items ≡ length text.now) }
-        ensures sound { OnOk result (AreSound kept.new.lines) }
-        ensures within { OnOk result (AreWithin (length text.now) (held_lines kept.new.lines)) }
-        ensures lines_len { OnOk result (length kept.new.lines.visual.levels.items ≡ length text.now) }
+        requires room { HaveRoom (option_map (λ list. list.now) ruler.sizes) }
+        ensures layout { IfOk result (λ base. HoldsLayout (with_advances (rules_in rules.now)
+            (option_map (λ list. list.now) ruler.entry.sizes)) ruler.entry.width text.now base kept.new) }
         ensures counts { OnOk result (FillsAll (length text.now) counts.old counts.new) }
         ensures at_most { FillsSome (length text.now) counts.old counts.new }
     {
         // By these theorems, the run edit changes no other level or mark.
         doubling_keeps_levels();
         doubling_keeps_marks();
-        marks_are_as_many(rules.tables, old.text(), rules.options.whole_numbers);
+        marks_are_as_many(
+            rules.tables,
+            change.laid.text(),
+            rules.options.whole_numbers,
+        );
+        let RunChange { laid, run } = change;
         let filled = counts.take_filled(text.len());
         let analysis = &mut self.analysis;
         fill_properties(rules.tables, text, &mut analysis.properties)?;
-        put_levels(old.levels(), run, &mut kept.levels)?;
-        put_marks(old.marks(), run, &mut kept.marks)?;
+        put_levels(laid.levels(), run, &mut kept.levels)?;
+        put_marks(laid.marks(), run, &mut kept.marks)?;
         fill_ends(&mut self.clusters, rules.options, text, &mut kept.ends)?;
         let paragraph = Paragraph {
             text: Text {
@@ -148,16 +128,24 @@ impl Workspace {
                 characters: text,
                 properties: &analysis.properties[..text.len()],
                 ends: &kept.ends,
-                base: old.base(),
+                base: laid.base(),
             },
-            advances,
+            advances: ruler.sizes,
             levels: &kept.levels,
             marks: &kept.marks,
         };
         let (clusters, infos) = (&mut self.clusters, &mut self.infos);
         let (lines, written) = (&mut kept.lines, &mut counts.written);
-        fill_lines(clusters, &paragraph, infos, width, lines, filled, written)?;
-        Ok(old.base())
+        fill_lines(
+            clusters,
+            &paragraph,
+            infos,
+            ruler.width,
+            lines,
+            filled,
+            written,
+        )?;
+        Ok(laid.base())
     }
 }
 

@@ -68,8 +68,8 @@ pub use fill::Fill;
 pub use laid::Laid;
 pub use laws::{
     clusters_adjoin, earlier_lines_stay, later_lines_follow, line_starts_are_spliced,
-    lines_are_few, lines_are_ordered, lines_have_all_characters, paragraphs_print_their_lines,
-    runs_adjoin, runs_have_all_columns, tabs_end_at_stops,
+    lines_are_few, lines_are_ordered, lines_are_spliced, lines_have_all_characters,
+    paragraphs_print_their_lines, runs_adjoin, runs_have_all_columns, tabs_end_at_stops,
 };
 pub use options::Options;
 pub use printing::bytes::{WriteFault, write_chars};

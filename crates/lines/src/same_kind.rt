@@ -7,6 +7,7 @@ ghost use Rattle.lines.specs.SameKind.{levels_with, mark_in_run, marks_with, Are
 ghost use Rattle.lines.specs.SameKind.{IsInRun, IsNoRunEdit, IsRunEdit};
 ghost use Rattle.bidi.specs.Doubling as bidi;
 
+use crate::laid::Laid;
 use crate::reserve::reserve;
 use breaks::{Mark, are_of_one_kind, mark_if_doubled};
 use std::alloc::AllocError;
@@ -32,6 +33,13 @@ pub(crate) struct RunEdit {
     pub(crate) new_len: usize,
     /// The break mark between two characters of this kind.
     pub(crate) mark: Mark,
+}
+
+/// A laid-out paragraph, and a run edit of it.
+#[derive(Clone, Copy)]
+pub(crate) struct RunChange<'a> {
+    pub(crate) laid: &'a Laid,
+    pub(crate) run: RunEdit,
 }
 
 // Returns whether a character of this class can be doubled.

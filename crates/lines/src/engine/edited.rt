@@ -1,11 +1,11 @@
 //! Lays out paragraphs that an edit has made of laid-out ones.
 ghost use Rattle.std.specs.Prelude.{◌≡◌, ◌^◌, ◌<◌, ◌≤◌, List, None, Some, length, option_map, sum};
 ghost use Rattle.std.specs.Prelude.{IfOk, OnOk};
-ghost use Rattle.lines.specs.Buffers.{held_in, held_lines, AreSound};
 ghost use Rattle.lines.specs.Engine.{rules_of, Fills, FillsAtMost, LaysOutAtMost, SameRules};
-ghost use Rattle.lines.specs.Layouts.{AreWithin, HaveRoom, IsLaidOut, IsParagraph};
-ghost use Rattle.lines.specs.Layouts.{fill_of, layout_of, with_advances};
-ghost use Rattle.lines.specs.SameKind.{IsEdited, IsInRun, IsRunEdit};
+ghost use Rattle.lines.specs.HeldLayouts.{HoldsLayout};
+ghost use Rattle.lines.specs.Layouts.{layout_of, with_advances};
+ghost use Rattle.lines.specs.Layouts.{HaveRoom, IsLaidOut, IsParagraph};
+ghost use Rattle.lines.specs.SameKind.{IsEdited, IsInRun, MakesText};
 ghost use Rattle.lines.specs.declared.engine.TheConstants.{PARAGRAPH_LIMIT};
 
 use crate::buffers::LayoutBuffers;
@@ -13,7 +13,8 @@ use crate::engine::Engine;
 use crate::fill::Fill;
 use crate::laid::{Laid, put_all_widths, with_room};
 use crate::paragraph::LentRules;
-use crate::same_kind::{Replacement, RunEdit, run_of};
+use crate::same_kind::{Replacement, RunChange, run_of};
+use crate::sizes::Ruler;
 use crate::workspace::ready;
 use std::alloc::{AllocError, Global};
 
@@ -51,7 +52,8 @@ impl Engine {
             };
         };
         let mut lists = LayoutBuffers::new(alloc);
-        let base = self.fill_run(alloc, old, run, &text, None, width, &mut lists)?;
+        let change = RunChange { laid: old, run };
+        let base = self.fill_run(alloc, change, &text, None, width, &mut lists)?;
         Ok(Laid {
             text,
             base,
@@ -93,7 +95,8 @@ impl Engine {
             return self.lay_out_measured(alloc, text, advances, width);
         };
         let mut lists = LayoutBuffers::new(alloc);
-        let base = self.fill_run(alloc, old, run, &text, Some(&advances), width, &mut lists)?;
+        let change = RunChange { laid: old, run };
+        let base = self.fill_run(alloc, change, &text, Some(&advances), width, &mut lists)?;
         let tab_width = self.tab_width();
         let lines = Fill::of(lists.lines);
         let mut sizes = with_room(advances, tab_width)?;
@@ -116,31 +119,18 @@ impl Engine {
     fn fill_run(
         &mut self,
         alloc: Global,
-        old: &Laid,
-        run: RunEdit,
+        change: RunChange<'_>,
         text: &[char],
         advances: Option<&[u32]>,
         width: u32,
         lists: &mut LayoutBuffers,
     ) -> Result<u8, AllocError>
-        requires laid { IsLaidOut (with_advances (rules_of self.old) old.now.advances) old.now }
-        requires run { IsRunEdit (rules_of self.old).tables old.now.text text.now run }
+        requires change { MakesText (rules_of self.old) change text.now }
         requires limit { length text.now ≤ PARAGRAPH_LIMIT }
         requires room { HaveRoom (option_map (λ list. list.now) advances) }
-        ensures base { IfOk result (λ base. base ≡ (layout_of (rules_of self.old) width text.now).base) }
-        ensures levels { OnOk result
-            (lists.new.levels.items ≡ (layout_of (rules_of self.old) width text.now).levels) }
-        ensures marks { OnOk result
-            (lists.new.marks.items ≡ (layout_of (rules_of self.old) width text.now).marks) }
-        ensures ends { OnOk result
-            (lists.new.ends.items ≡ (layout_of (rules_of self.old) width text.now).ends) }
-        ensures lines { OnOk result (held_in lists.new.lines
-            ≡ fill_of (with_advances (rules_of self.old)
-            (option_map (λ list. list.now) advances.entry)) width text.now) }
-        ensures sound { OnOk result (AreSound lists.new.lines) }
+        ensures layout { IfOk result (λ base. HoldsLayout (with_advances (rules_of self.old)
+            (option_map (λ list. list.now) advances.entry)) width text.now base lists.new) }
         ensures unmeasured { (rules_of self.old).advances ≡ None }
-        ensures len { OnOk result (length lists.new.levels.items ≡ length text.now) }
-        ensures within { OnOk result (AreWithin (length text.now) (held_lines lists.new.lines)) }
         ensures counts { OnOk result (Fills (length text.now) self.old self.new) }
         ensures at_most { FillsAtMost (length text.now) self.old self.new }
         ensures rules { SameRules self.old self.new }
@@ -152,7 +142,11 @@ impl Engine {
             tables: &self.tables,
             options: self.options,
         };
-        let base = work.lay_out_run(&rules, old, run, text, advances, width, lists, counts)?;
+        let ruler = Ruler {
+            sizes: advances,
+            width,
+        };
+        let base = work.lay_out_run(&rules, change, text, ruler, lists, counts)?;
         Ok(base)
     }
 }

@@ -1,17 +1,18 @@
-use Rattle.std.proofs.Common.{◌≡◌, ap, subst}
+use Rattle.std.proofs.Common.{ap, subst, sym}
 use Rattle.std.specs.Prelude.{option_map}
-use Rattle.bidi.specs.Levels.{levels_of}
 use Rattle.lines.specs.Engine.{rules_of}
-use Rattle.lines.specs.Layouts.{Rules}
-use Rattle.lines.specs.Buffers.{held_lines}
-use Rattle.lines.proofs.LayoutLemmas.{filled_as, lines_with}
+use Rattle.lines.specs.HeldLayouts.{HoldsLayout}
+use Rattle.lines.specs.Layouts.{with_advances, Rules}
+use Rattle.lines.specs.SameKind.{MakesText}
 use Rattle.lines.proofs.engine.Engine.fill_run.Goals as goal
 
-pub returns-clause-levels : goal.returns-clause-levels
-returns-clause-levels c =
-    subst (λ (rules : Rules). c.lay_out_run.new.kept.levels.items ≡ levels_of rules.tables c.args.text.now rules.options.base) (ap rules_of c.self.view_is) c.in_ok-base.ensures.levels
+pub lay_out_run-requires-clause-change : goal.lay_out_run-requires-clause-change
+lay_out_run-requires-clause-change c = subst (λ (rules : Rules). MakesText rules c.args.change c.args.text.now) (sym (ap rules_of c.self.view_is)) c.requires.change
 
-pub returns-clause-lines : goal.returns-clause-lines
-returns-clause-lines c =
-    let lines = lines_with (option_map (λ list. list.now) c.args.advances) c.args.width c.args.text.now (held_lines c.lay_out_run.new.kept.lines) (ap rules_of c.self.view_is) c.in_ok-base.ensures.lines in
-    filled_as _ _ _ _ lines c.in_ok-base.ensures.lines_len
+pub returns-clause-layout : goal.returns-clause-layout
+returns-clause-layout c =
+    subst (λ (rules : Rules). HoldsLayout (with_advances rules (option_map (λ list. list.now) c.args.advances)) c.args.width c.args.text.now c.in_ok-base.base c.lay_out_run.new.kept)
+    (ap rules_of c.self.view_is) c.in_ok-base.ensures.layout
+
+pub returns-clause-unmeasured : goal.returns-clause-unmeasured
+returns-clause-unmeasured c = sym (ap (λ (rules : Rules). rules.advances) (ap rules_of c.self.view_is))

@@ -8,10 +8,10 @@ use Rattle.lines.proofs.engine.Engine.lay_out.Goals as goal
 pub returns-in-Ok-clause-ok : goal.returns-in-Ok-clause-ok
 returns-in-Ok-clause-ok c =
     let lists = c.fill_lists.new.lists in
-    let found = c.in-Ok.ensures in
+    let found = c.in-Ok.ensures.layout in
     same_layout (rules_of c.args.self.now) c.args.width c.args.text.items c.deref.result.now None c.in-Ok.base c.tab_width.result lists.levels.items lists.marks.items lists.ends.items c.of.result.lines
-    c.deref.ensures.value (sym c.fill_lists.ensures.unmeasured) found.base (c.tab_width.ensures ∙ ap (λ (r : Rules). tab_width_in r.tables r.options) c.fill_lists.ensures.rules) found.levels found.marks found.ends
-    (ap (λ (f : Filled). f.lines) (c.of.ensures ∙ found.lines) ∙ ap (λ (r : Rules). lines_of r c.args.width c.deref.result.now) (own_rules (rules_of c.args.self.now) c.fill_lists.ensures.unmeasured))
+    c.deref.ensures.value (sym c.fill_lists.ensures.unmeasured) found.base_is (c.tab_width.ensures ∙ ap (λ (r : Rules). tab_width_in r.tables r.options) c.fill_lists.ensures.rules) found.levels found.marks found.ends
+    (ap (λ (f : Filled). f.lines) c.of.ensures ∙ found.lines ∙ ap (λ (r : Rules). lines_of r c.args.width c.deref.result.now) (own_rules (rules_of c.args.self.now) c.fill_lists.ensures.unmeasured))
 
 pub returns-in-Ok-clause-laid_out : goal.returns-in-Ok-clause-laid_out
 returns-in-Ok-clause-laid_out c =

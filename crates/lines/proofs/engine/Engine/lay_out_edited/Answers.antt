@@ -8,7 +8,7 @@ use Rattle.lines.proofs.engine.Engine.lay_out_edited.Goals as goal
 pub returns-clause-ok : goal.returns-clause-ok
 returns-clause-ok c =
     let lists = c.fill_run.new.lists in
-    let found = c.in_ok-base.ensures in
+    let found = c.in_ok-base.ensures.layout in
     same_layout (rules_of c.args.self.now) c.args.width c.args.text.items c.deref-2.result.now None c.in_ok-base.base c.tab_width.result lists.levels.items lists.marks.items lists.ends.items c.of.result.lines
-    c.deref-2.ensures.value (sym c.fill_run.ensures.unmeasured) found.base (c.tab_width.ensures ∙ ap (λ (r : Rules). tab_width_in r.tables r.options) c.fill_run.ensures.rules) found.levels found.marks found.ends
-    (ap (λ (f : Filled). f.lines) (c.of.ensures ∙ found.lines) ∙ ap (λ (r : Rules). lines_of r c.args.width c.deref-2.result.now) (own_rules (rules_of c.args.self.now) c.fill_run.ensures.unmeasured))
+    c.deref-2.ensures.value (sym c.fill_run.ensures.unmeasured) found.base_is (c.tab_width.ensures ∙ ap (λ (r : Rules). tab_width_in r.tables r.options) c.fill_run.ensures.rules) found.levels found.marks found.ends
+    (ap (λ (f : Filled). f.lines) c.of.ensures ∙ found.lines ∙ ap (λ (r : Rules). lines_of r c.args.width c.deref-2.result.now) (own_rules (rules_of c.args.self.now) c.fill_run.ensures.unmeasured))

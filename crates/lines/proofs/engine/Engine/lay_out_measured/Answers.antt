@@ -3,14 +3,14 @@ use Rattle.lines.specs.Engine.{rules_of}
 use Rattle.lines.specs.Layouts.{AreWithin, Filled, Rules, lines_of, with_advances}
 use Rattle.lines.specs.Measures.{FollowFrom}
 use Rattle.lines.specs.Tabs.{tab_width_in}
-use Rattle.lines.proofs.LayoutLemmas.{laid_out_by, same_layout}
+use Rattle.lines.proofs.LayoutLemmas.{filled_as, laid_out_by, same_layout}
 use Rattle.lines.proofs.MeasureLemmas.{advances_stay, sizes_after}
 use Rattle.lines.proofs.VisualLemmas.{lines_follow}
 use Rattle.lines.proofs.engine.Engine.lay_out_measured.Goals as goal
 
 pub put_all_widths-requires-clause-lines : goal.put_all_widths-requires-clause-lines
 put_all_widths-requires-clause-lines c =
-    subst (λ (f : Filled). FollowFrom 0 f.lines) (sym (c.of-lines.ensures ∙ c.in_ok-base.ensures.lines)) (lines_follow _ c.args.width c.deref.result.now)
+    subst (λ (f : Filled). FollowFrom 0 f.lines) (sym (c.of-lines.ensures ∙ filled_as _ _ _ _ c.in_ok-base.ensures.layout.lines c.in_ok-base.ensures.layout.lines_len)) (lines_follow _ c.args.width c.deref.result.now)
 
 pub invariant_of-result : goal.invariant_of-result
 invariant_of-result c =
@@ -18,9 +18,9 @@ invariant_of-result c =
     let sizes = c.in_ok-sizes.sizes in
     let put = c.put_all_widths.ensures in
     let first : take (length text) sizes.items ≡ c.args.advances.items = ap (λ n. take n sizes.items) (sym c.requires.len) ∙ c.in_ok-sizes.ensures.advances in (
-      c.in_ok-base.ensures.len ∙ ap length c.deref.ensures.value,
-      ap (λ (f : Filled). f.len) (c.of-lines.ensures ∙ c.in_ok-base.ensures.lines) ∙ ap length c.deref.ensures.value,
-      subst (λ (n : ℕ). AreWithin n c.of-lines.result.lines) (ap length c.deref.ensures.value) (subst (λ (f : Filled). AreWithin (length c.deref.result.now) f.lines) (sym c.of-lines.ensures) c.in_ok-base.ensures.within),
+      c.in_ok-base.ensures.layout.len ∙ ap length c.deref.ensures.value,
+      ap (λ (f : Filled). f.len) c.of-lines.ensures ∙ c.in_ok-base.ensures.layout.lines_len ∙ ap length c.deref.ensures.value,
+      subst (λ (n : ℕ). AreWithin n c.of-lines.result.lines) (ap length c.deref.ensures.value) (subst (λ (f : Filled). AreWithin (length c.deref.result.now) f.lines) (sym c.of-lines.ensures) c.in_ok-base.ensures.layout.within),
       c.requires.paragraph.within,
       λ measured. sizes_after c.tab_width-tab_width.result sizes.len text c.deref-3.result.now sizes.items c.deref_mut.result.now c.put_all_widths.new.sizes c.of-lines.result.lines
           c.deref-3.ensures.value c.deref_mut.ensures.value (sym c.deref_mut.ensures.len ∙ ap length c.deref_mut.ensures.value)
@@ -29,7 +29,7 @@ invariant_of-result c =
 
 pub returns-clause-ok : goal.returns-clause-ok
 returns-clause-ok c =
-    let found = c.in_ok-base.ensures in
+    let found = c.in_ok-base.ensures.layout in
     let text = c.args.text.items in
     let sizes = c.in_ok-sizes.sizes in
     let put = c.put_all_widths.ensures in
@@ -39,8 +39,8 @@ returns-clause-ok c =
     c.fill_lists.new.lists.ends.items c.of-lines.result.lines c.deref.ensures.value
     (advances_stay true sizes.len text c.deref-3.result.now sizes.items c.deref_mut.result.now c.put_all_widths.new.sizes c.deref-3.ensures.value c.deref_mut.ensures.value
     (sym c.deref_mut.ensures.len ∙ ap length c.deref_mut.ensures.value) put.advances put.len ∙ ap Some first)
-    found.base (c.tab_width-tab_width.ensures ∙ ap (λ (r : Rules). tab_width_in r.tables r.options) c.fill_lists.ensures.rules) found.levels found.marks found.ends
-    (ap (λ (f : Filled). f.lines) (c.of-lines.ensures ∙ found.lines) ∙ ap (λ (xs : List ℕ). lines_of (with_advances rules (Some xs)) c.args.width c.deref.result.now) c.deref-2.ensures.value)
+    found.base_is (c.tab_width-tab_width.ensures ∙ ap (λ (r : Rules). tab_width_in r.tables r.options) c.fill_lists.ensures.rules) found.levels found.marks found.ends
+    (ap (λ (f : Filled). f.lines) c.of-lines.ensures ∙ found.lines ∙ ap (λ (xs : List ℕ). lines_of (with_advances rules (Some xs)) c.args.width c.deref.result.now) c.deref-2.ensures.value)
 
 pub returns-clause-laid_out : goal.returns-clause-laid_out
 returns-clause-laid_out c =
