@@ -541,7 +541,7 @@ def compares_levels(tables, name, cases):
         found = line_levels(reasons(tables, text, given), base)
         if found != wanted or level not in (None, base):
             differ.append(f"{' '.join(f'{ord(one):04X}' for one in text)}: {wanted} is expected, and {found} found")
-    return told(f"{name} of {tables.version}", count, differ)
+    return report(f"{name} of {tables.version}", count, differ)
 
 
 def compares_rules(tables):
@@ -561,10 +561,10 @@ def compares_rules(tables):
         count += 1
         if [one.rule for one in found] != wanted or [one.mark.replace("!", "÷") for one in found] != words[2::2]:
             differ.append(f"{line}: {' '.join(wanted)} is expected, and {' '.join(one.rule for one in found)} found")
-    return told(f"the rules of LineBreakTest.txt of {tables.version}", count, differ)
+    return report(f"the rules of LineBreakTest.txt of {tables.version}", count, differ)
 
 
-def told(name, count, differ):
+def report(name, count, differ):
     print(f"reasons: {name}: {count} cases, {len(differ)} differ", *differ[:SHOWN], sep="\n  ", flush=True)
     return count - len(differ), len(differ)
 

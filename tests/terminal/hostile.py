@@ -79,7 +79,7 @@ LOOKED_AT_FOR_DIRECTION = 65_536
 WORDS = [([], True), (["-d", "file"], True), (["--strict"], False)]
 
 
-def proportional(folder, told):
+def proportional(folder, report):
     """Twice the characters must not take much more than twice the processor's time."""
     for name, text in AFTER_CR:
         for words, is_allowed in WORDS:
@@ -91,13 +91,14 @@ def proportional(folder, told):
                 with open(f"{folder}/output", "rb") as file:
                     output = file.read()
                 shown = f"{n} characters of {name} after CR, {' '.join(words)}"
-                told(f"the output for {shown}", output == (b"\n" if is_allowed else b""), output[:60])
-                told(f"the status for {shown}", status == (not is_allowed), message[:300])
+                report(f"the output for {shown}", output == (b"\n" if is_allowed else b""), output[:60])
+                report(f"the status for {shown}", status == (not is_allowed), message[:300])
                 seconds.append(costs.processor_seconds)
-            told(f"time in proportion for {name} after CR, {' '.join(words)}", seconds[1] <= 2.5 * seconds[0] + 0.3, f"{seconds[0]:.2f} s, {seconds[1]:.2f} s")
+            report(f"time in proportion for {name} after CR, {' '.join(words)}",
+                   seconds[1] <= 2.5 * seconds[0] + 0.3, f"{seconds[0]:.2f} s, {seconds[1]:.2f} s")
 
 
-def byte_by_byte(folder, told):
+def byte_by_byte(folder, report):
     """Four times the characters, read one byte at a time, must not take much more than four times the processor's time."""
     for name, text in WITHOUT_DIRECTION:
         seconds = []
@@ -109,14 +110,14 @@ def byte_by_byte(folder, told):
             with open(f"{folder}/output", "rb") as file:
                 output = file.read()
             shown = f"{n} characters of {name}, read one byte at a time"
-            told(f"the output for {shown}", output == command.run(["-d", "rtl"], data).output, output[:60])
-            told(f"the status for {shown}", status == 0, message[:300])
+            report(f"the output for {shown}", output == command.run(["-d", "rtl"], data).output, output[:60])
+            report(f"the status for {shown}", status == 0, message[:300])
             seconds.append(costs.processor_seconds)
-        told(f"time in proportion for {name}, read one byte at a time", seconds[1] <= 6 * seconds[0] + 0.2, f"{seconds[0]:.2f} s, {seconds[1]:.2f} s")
+        report(f"time in proportion for {name}, read one byte at a time", seconds[1] <= 6 * seconds[0] + 0.2, f"{seconds[0]:.2f} s, {seconds[1]:.2f} s")
 
 
-def checks(told):
-    """Runs all cases. `told` takes a name, whether it holds, and what to show if it does not."""
+def checks(report):
+    """Runs all cases. `report` takes a name, whether it holds, and what to show if it does not."""
     import model
 
     with tempfile.TemporaryDirectory() as folder:
@@ -133,12 +134,13 @@ def checks(told):
                 output = file.read()
             os.remove(output_path)
             at = next((at for at, (a, b) in enumerate(zip(output, expected)) if a != b), min(len(output), len(expected)))
-            told(f"the output for {name}", output == expected, f"{len(output)} bytes, {len(expected)} are expected; from byte {at} on {output[at : at + 60]!r} and not {expected[at : at + 60]!r}")
-            told(f"the status for {name}", status == is_too_long and bool(message) == is_too_long, f"{status}", message[:300])
+            report(f"the output for {name}", output == expected,
+                   f"{len(output)} bytes, {len(expected)} are expected; from byte {at} on {output[at : at + 60]!r} and not {expected[at : at + 60]!r}")
+            report(f"the status for {name}", status == is_too_long and bool(message) == is_too_long, f"{status}", message[:300])
             most = KILOBYTES_OF_LONG_PARAGRAPHS if is_too_long else KILOBYTES
-            told(f"the costs of {name}", within(costs, most), f"{costs.seconds:.1f} s, {costs.kilobytes} KB")
-        proportional(folder, told)
-        byte_by_byte(folder, told)
+            report(f"the costs of {name}", within(costs, most), f"{costs.seconds:.1f} s, {costs.kilobytes} KB")
+        proportional(folder, report)
+        byte_by_byte(folder, report)
 
 
 def within(costs: Costs, kilobytes):

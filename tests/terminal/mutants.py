@@ -164,9 +164,9 @@ def planted(changes):
             setattr(owner, name, old)
 
 
-def checks(told, rows, printed_for):
+def checks(report, rows, printed_for):
     """Runs the rows with each mutant. `printed_for` is what the model prints for a row."""
     for name, changes in MUTANTS.items():
         with planted(changes):
             noticed = [row.name for row in rows if printed_for(row) != row.output]
-        told(f"the rows notice the mutant: {name}", noticed)
+        report(f"the rows notice the mutant: {name}", noticed)

@@ -48,13 +48,13 @@ def cells_on_screen(output, width):
 BLANK = (" ", False, False, False, False, False, "default", "default")
 
 
-def compares(told, name, data, width, words=()):
+def compares(report, name, data, width, words=()):
     its = model.settings([f"--width={width}", *words])
     output = command.run([f"--width={width}", *words], data).output
     wanted = [row + [BLANK] * (width + 1 - len(row)) for row in cells_by_model(data, its)]
     found = cells_on_screen(output, width)
     differ = [(y, x, a, b) for y, (one, other) in enumerate(zip(wanted, found)) for x, (a, b) in enumerate(zip(one, other)) if a != b]
-    told(f"the screen of {name}", len(wanted) == len(found) < ROWS and not differ, f"{data!r}", f"{len(found)} rows, {len(wanted)} expected", *differ[:3])
+    report(f"the screen of {name}", len(wanted) == len(found) < ROWS and not differ, f"{data!r}", f"{len(found)} rows, {len(wanted)} expected", *differ[:3])
 
 
 # ---- Texts ----
@@ -118,18 +118,18 @@ def overstruck_manual_page():
     return ("\n".join(lines) + "\n").encode()
 
 
-def checks(told, random, count):
+def checks(report, random, count):
     with tempfile.TemporaryDirectory() as folder:
         if shutil.which("git"):
-            compares(told, "git log", git_log(folder), 50)
+            compares(report, "git log", git_log(folder), 50)
     for width in (20, 60):
-        compares(told, f"grep at {width}", grep(), width)
+        compares(report, f"grep at {width}", grep(), width)
     if shutil.which("mandoc") or shutil.which("groff"):
         for width in (40, 80):
-            compares(told, f"a manual page at {width}", overstruck_manual_page(), width)
+            compares(report, f"a manual page at {width}", overstruck_manual_page(), width)
     for at in range(count):
         words = random.choice([[], [], ["--nopad"], ["--direction=rtl"], ["--marks=after"], ["--show-spaces"], ["--tabs=4"]])
         width = random.choice([5, 10, 20, 40])
         # (a tab that is wider than the screen would cover parts of two rows)
         narrow_tabs = ["--tabs=4"] if width == 5 else []
-        compares(told, f"random text {at}", simple_text(random), width, words + narrow_tabs)
+        compares(report, f"random text {at}", simple_text(random), width, words + narrow_tabs)

@@ -95,7 +95,7 @@ impl Teller {
     }
 
     /// Records the status of a result, and returns its value.
-    fn told<T>(&self, name: &str, result: Result<T, Error>) -> Option<T> {
+    fn ok<T>(&self, name: &str, result: Result<T, Error>) -> Option<T> {
         self.tell(name, result.as_ref().err().map_or(0, status_of));
         result.ok()
     }
@@ -293,22 +293,22 @@ impl Run<'_> {
         let from = self.below(model.0.len() + 1);
         let to = from + self.below(model.0.len() + 1 - from);
         let unit = self.unit();
-        for run in teller.told("runs", line.runs()).unwrap() {
+        for run in teller.ok("runs", line.runs()).unwrap() {
             self.run(
                 run.range.start - start,
                 run.range.end - run.range.start,
                 run.level,
             );
         }
-        let clusters = teller.told("clusters", line.clusters()).unwrap();
+        let clusters = teller.ok("clusters", line.clusters()).unwrap();
         teller.tell_all("end", clusters.map(|cluster| cluster.end - start));
-        let told = range_in_unit!(unit, model, from, to, |range| {
-            teller.told(
+        let spans = range_in_unit!(unit, model, from, to, |range| {
+            teller.ok(
                 "spans",
                 line.spans(range).map(|spans| spans.collect::<Vec<_>>()),
             )
         });
-        for span in told.unwrap() {
+        for span in spans.unwrap() {
             self.tell("span.left", span.left);
             self.tell("span.right", span.right);
         }
@@ -316,25 +316,25 @@ impl Run<'_> {
 
     fn line(&self, session: &Session, model: &Model, number: usize) {
         let teller = &self.teller;
-        if let Some(start) = teller.told("line_start", session.line_start(number)) {
+        if let Some(start) = teller.ok("line_start", session.line_start(number)) {
             self.tell("start", start);
             let line = session.line(number).unwrap();
             self.shown(&line);
             self.parts(&line, model);
         }
-        if let Some((first, last)) = teller.told("line_edges", session.line_edges(number)) {
+        if let Some((first, last)) = teller.ok("line_edges", session.line_edges(number)) {
             self.edge(first);
             self.edge(last);
         }
         for k in 0..4 {
             let column = if k == 0 { usize::MAX } else { self.below(24) };
-            if let Some(edge) = teller.told("edge_at", session.edge_at(number, column)) {
+            if let Some(edge) = teller.ok("edge_at", session.edge_at(number, column)) {
                 self.edge(edge);
             }
-            if let Some(edge) = teller.told("nearest_edge", session.nearest_edge(number, column)) {
+            if let Some(edge) = teller.ok("nearest_edge", session.nearest_edge(number, column)) {
                 self.edge(edge);
             }
-            if let Some(hit) = teller.told("hit_at", session.hit(number, column)) {
+            if let Some(hit) = teller.ok("hit_at", session.hit(number, column)) {
                 self.tell("hit.pos", hit.pos);
                 self.tell("hit.trailing", hit.trailing);
             }
@@ -342,7 +342,7 @@ impl Run<'_> {
     }
 
     fn paragraph(&self, session: &Session, number: usize) {
-        let paragraph = match self.teller.told("paragraph", session.paragraph(number)) {
+        let paragraph = match self.teller.ok("paragraph", session.paragraph(number)) {
             Some(paragraph) => paragraph,
             None => return,
         };
@@ -359,36 +359,36 @@ impl Run<'_> {
     fn position(&self, session: &Session, model: &Model, pos: usize) {
         let teller = &self.teller;
         in_unit!(self.unit(), model, pos, |at| {
-            if let Some(place) = teller.told("place_of", session.place(at)) {
+            if let Some(place) = teller.ok("place_of", session.place(at)) {
                 self.tell("place.paragraph", place.paragraph);
                 self.tell("place.line", place.line);
                 self.tell("place.offset", place.offset);
             }
-            if let Some(caret) = teller.told("caret_at", session.caret(at)) {
+            if let Some(caret) = teller.ok("caret_at", session.caret(at)) {
                 self.caret(caret);
             }
-            if let Some(cluster) = teller.told("cluster_at", session.cluster(at)) {
+            if let Some(cluster) = teller.ok("cluster_at", session.cluster(at)) {
                 self.tell("cluster.start", cluster.start);
                 self.tell("cluster.end", cluster.end);
             }
-            if let Some(word) = teller.told("word_at", session.word(at)) {
+            if let Some(word) = teller.ok("word_at", session.word(at)) {
                 self.tell("word.start", word.range.start);
                 self.tell("word.end", word.range.end);
                 self.tell("word.kind", word.is_alphanumeric);
             }
-            if let Some(byte) = teller.told("byte_of", session.byte_of(at)) {
+            if let Some(byte) = teller.ok("byte_of", session.byte_of(at)) {
                 self.tell("byte", byte);
             }
-            if let Some(unit) = teller.told("utf16_of", session.utf16_of(at)) {
+            if let Some(unit) = teller.ok("utf16_of", session.utf16_of(at)) {
                 self.tell("unit", unit);
             }
         });
         for edge in [Edge::before(CharPos(pos)), Edge::after(CharPos(pos))] {
             let direction = [Direction::Left, Direction::Right][self.below(2)];
-            if let Some(caret) = teller.told("edge_caret", session.edge_caret(edge)) {
+            if let Some(caret) = teller.ok("edge_caret", session.edge_caret(edge)) {
                 self.caret(caret);
             }
-            if let Some(next) = teller.told("step", session.step(edge, direction)) {
+            if let Some(next) = teller.ok("step", session.step(edge, direction)) {
                 self.tell("moved", next.is_some());
                 next.into_iter().for_each(|edge| self.edge(edge));
             }
@@ -399,7 +399,7 @@ impl Run<'_> {
         let byte = session.position_of_byte(BytePos(offset));
         let unit = session.position_of_utf16(Utf16Pos(offset));
         for (name, found) in [("position_of_byte", byte), ("position_of_utf16", unit)] {
-            if let Some((pos, rest)) = self.teller.told(name, found) {
+            if let Some((pos, rest)) = self.teller.ok(name, found) {
                 self.tell("pos", pos);
                 self.tell("rest", rest);
             }
@@ -415,17 +415,17 @@ impl Run<'_> {
         let end = first + self.below(lines + 1 - first);
         let print = print_of(1 + self.below(127));
         range_in_unit!(self.unit(), model, from, to, |range| {
-            if let Some(text) = teller.told("text", session.text(range.clone())) {
+            if let Some(text) = teller.ok("text", session.text(range.clone())) {
                 teller.tell_all("byte", text.bytes());
             }
-            if let Some(chars) = teller.told("text_utf32", session.chars(range.clone())) {
+            if let Some(chars) = teller.ok("text_utf32", session.chars(range.clone())) {
                 teller.tell_all("character", chars.into_iter());
             }
-            if let Some(length) = teller.told("utf8_length", session.utf8_len(range)) {
+            if let Some(length) = teller.ok("utf8_length", session.utf8_len(range)) {
                 self.tell("length", length);
             }
         });
-        if let Some(text) = teller.told("lines_utf8", session.lines_to_string(first..end, print)) {
+        if let Some(text) = teller.ok("lines_utf8", session.lines_to_string(first..end, print)) {
             teller.tell_all("byte", text.bytes());
         }
     }
@@ -435,31 +435,24 @@ impl Run<'_> {
         let from = self.below(chars.len() + 1);
         let to = from + self.below(chars.len() + 1 - from);
         let base = teller
-            .told("base", base_level(tables, chars, options))
+            .ok("base", base_level(tables, chars, options))
             .unwrap();
         self.tell("base", base);
-        let levels = teller
-            .told("levels", levels(tables, chars, options))
-            .unwrap();
+        let levels = teller.ok("levels", levels(tables, chars, options)).unwrap();
         teller.tell_all("level", levels.iter().copied());
-        let marks = teller
-            .told("marks", breaks(tables, chars, options))
-            .unwrap();
+        let marks = teller.ok("marks", breaks(tables, chars, options)).unwrap();
         teller.tell_all("mark", marks.into_iter());
         let (chars_of_row, levels_of_row) = (&chars[from..to], &levels[from..to]);
         let found = row(tables, chars_of_row, levels_of_row, base, options);
         self.row(
             ["visual", "level", "ltov", "vtol"],
-            &teller.told("row", found).unwrap(),
+            &teller.ok("row", found).unwrap(),
         );
         let runs = row_runs(tables, chars_of_row, levels_of_row, base);
-        for run in teller.told("row_runs", runs).unwrap() {
+        for run in teller.ok("row_runs", runs).unwrap() {
             self.run(run.range.start, run.range.len(), run.level);
         }
-        for it in teller
-            .told("properties", properties(tables, chars))
-            .unwrap()
-        {
+        for it in teller.ok("properties", properties(tables, chars)).unwrap() {
             let (bracket, pair) = match it.bracket {
                 None => (0_u8, '\0'),
                 Some(Bracket::Open(pair)) => (1, pair),
@@ -479,7 +472,7 @@ impl Run<'_> {
     fn reasons(&self, tables: &Tables, options: Options, chars: &[char]) {
         let teller = &self.teller;
         for it in teller
-            .told("reasons", reasons(tables, chars, options))
+            .ok("reasons", reasons(tables, chars, options))
             .unwrap()
         {
             self.tell("opener", it.opener);
@@ -499,7 +492,7 @@ impl Run<'_> {
             self.tell("neutral", it.neutral);
         }
         for it in teller
-            .told("break_reasons", break_reasons(tables, chars, options))
+            .ok("break_reasons", break_reasons(tables, chars, options))
             .unwrap()
         {
             self.tell("base", it.base);
@@ -536,7 +529,7 @@ impl Run<'_> {
     }
 
     fn edited(&self, result: Result<Damage, Error>) {
-        if let Some(damage) = self.teller.told("edit", result) {
+        if let Some(damage) = self.teller.ok("edit", result) {
             self.damage(&damage);
         }
     }
@@ -594,14 +587,14 @@ impl Run<'_> {
         let text = self.teller.text(self.below(30));
         let page = layout(tables, &text, width, options, print);
         self.teller
-            .tell_all("byte", self.teller.told("layout", page).unwrap().bytes());
+            .tell_all("byte", self.teller.ok("layout", page).unwrap().bytes());
         let is_measured = self.below(3) == 0;
         let opened = if is_measured {
             Session::open_measured(tables, &text, width.into(), options)
         } else {
             Session::new(tables, &text, width, options)
         };
-        let mut session = self.teller.told("open", opened).unwrap();
+        let mut session = self.teller.ok("open", opened).unwrap();
         if is_measured {
             let advances = self.teller.advances(session.counts().characters);
             self.edited(session.set_advances(CharPos(0), &advances));
@@ -612,11 +605,11 @@ impl Run<'_> {
         self.answers(&session);
         let chars = session.chars(..).unwrap();
         self.rows(tables, options, &chars);
-        let ends = self.teller.told("text_clusters", clusters(&chars)).unwrap();
+        let ends = self.teller.ok("text_clusters", clusters(&chars)).unwrap();
         self.teller.tell_all("end", ends.into_iter());
         let runs = self
             .teller
-            .told("script_runs", script_runs(tables, &chars))
+            .ok("script_runs", script_runs(tables, &chars))
             .unwrap();
         for run in runs {
             self.tell("run.start", run.range.start);
@@ -630,11 +623,11 @@ impl Run<'_> {
             .skip(damaged)
             .take(1)
             .for_each(|byte| *byte ^= 0x80);
-        if let Some(count) = self.teller.told("count_utf8", count_utf8(&bytes)) {
+        if let Some(count) = self.teller.ok("count_utf8", count_utf8(&bytes)) {
             self.tell("count", count);
         }
         self.tell("valid", valid_utf8(&bytes));
-        if let Some((chars, offsets)) = self.teller.told("decode", decode(&bytes)) {
+        if let Some((chars, offsets)) = self.teller.ok("decode", decode(&bytes)) {
             self.teller.tell_all("character", chars.into_iter());
             self.teller.tell_all("offset", offsets.into_iter());
         }
