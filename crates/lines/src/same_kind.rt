@@ -3,6 +3,7 @@
 ghost use Rattle.std.specs.Prelude.{◌≡◌, ◌+◌, ◌^◌, ◌<◌, ◌≤◌, true, None, length, replicate, take, drop};
 ghost use Rattle.std.specs.Prelude.{All, IfSome, OnOk};
 ghost use Rattle.std.specs.List.{splice};
+ghost use Rattle.breaks.specs.Bases.{character};
 ghost use Rattle.lines.specs.SameKind.{levels_with, mark_in_run, marks_with, AreOfOneKind, IsEdited};
 ghost use Rattle.lines.specs.SameKind.{IsInRun, IsNoRunEdit, IsRunEdit};
 ghost use Rattle.bidi.specs.Doubling as bidi;
@@ -72,6 +73,19 @@ fn mark_in_run(tables: &Tables, c: char) -> Option<Mark>
     }
 }
 
+// Returns whether the line breaking rules read the same properties of both characters.
+fn are_same_for_lines(tables: &Tables, c: char, d: char) -> bool
+    ensures yes { result ≡ true → character tables.now d ≡ character tables.now c }
+    ensures no { character tables.now d ≡ character tables.now c → result ≡ true }
+{
+    let (one, other) = (tables.properties(c), tables.properties(d));
+    // Most characters of the same kind have the same number.
+    if one.line_index() == other.line_index() {
+        return true;
+    }
+    are_of_one_kind(tables, c, d)
+}
+
 // Returns whether two characters are of the same kind.
 fn are_alike(tables: &Tables, c: char, d: char) -> bool
     ensures yes { result ≡ true → AreOfOneKind tables.now c d }
@@ -81,7 +95,7 @@ fn are_alike(tables: &Tables, c: char, d: char) -> bool
     one.bidi_class() == other.bidi_class()
         && !one.has_bracket()
         && !other.has_bracket()
-        && are_of_one_kind(tables, c, d)
+        && are_same_for_lines(tables, c, d)
 }
 
 // Returns whether all characters are of the kind of `c`, which must not be a bracket.
@@ -124,13 +138,13 @@ fn run_at(
     if tables.properties(first).has_bracket() {
         return None;
     }
-    let mark = mark_in_run(tables, first)?;
     if !are_of_kind(tables, first, &old[at..at + old_len]) {
         return None;
     }
     if !are_of_kind(tables, first, &new[at..at + new_len]) {
         return None;
     }
+    let mark = mark_in_run(tables, first)?;
     Some(RunEdit {
         at,
         old_len,

@@ -94,10 +94,13 @@ impl Workspace {
     }
 }
 
+// The length from which it is cheaper to grow a list a little than to allocate a new one.
+const LONG: usize = 1_024;
+
 // Returns whether a list of this capacity is worth using for `len` items: the two differ by at most
-// `len / 8 + 16`. Growing a list a little is cheaper than allocating a new one.
+// `len / 8 + 16`, and only a list of `LONG` items or more has to grow.
 fn fits(capacity: usize, len: usize) -> bool {
-    capacity.abs_diff(len) <= len / 8 + 16
+    (capacity >= len || len >= LONG) && capacity.abs_diff(len) <= len / 8 + 16
 }
 
 // Allocates a workspace.
