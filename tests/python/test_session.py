@@ -90,7 +90,9 @@ def test_counts_and_work():
         assert text.counts == hordguli.Counts(4, 2, 2, 9)
         before = text.work
         text.insert(0, "x")
-        assert text.work.analysed - before.analysed == 3
+        assert text.work.analysed == before.analysed
+        text.insert(0, HEBREW[0])
+        assert text.work.analysed - before.analysed == 4
 
 
 def test_a_line_has_its_text_maps_columns_and_runs():

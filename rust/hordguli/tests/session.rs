@@ -319,7 +319,9 @@ fn counts_and_work() {
     assert_eq!(text.end(), CharPos(13));
     let start = text.work().analysed;
     text.insert(CharPos(13), "s").unwrap();
-    assert_eq!(text.work().analysed - start, 6);
+    assert_eq!(text.work().analysed, start);
+    text.insert(CharPos(14), "!").unwrap();
+    assert_eq!(text.work().analysed - start, 7);
 }
 
 #[test]
