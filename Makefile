@@ -86,7 +86,7 @@ all program bench-program conformance-program:
 	for name in $(filter fribidi hordguli bench conformance,$(programs)); do cp crates/$$name/out/$$name bin/$$name; done
 	$(if $(filter hordguli,$(programs)),$(call for_arm64,tools/compile_arm64 fribidi && tools/compile_arm64 hordguli && tools/build_command))
 
-lib-bidi lib-breaks lib-reorder lib-scripts: lib-ucd
+lib-bidi lib-breaks lib-joining lib-reorder lib-scripts: lib-ucd
 lib-lines: lib-device lib-bidi lib-breaks lib-reorder lib-stream
 lib-session: lib-lines lib-store
 lib-stream: lib-device
@@ -100,7 +100,7 @@ lib-tool: lib-session lib-command_line lib-script_commands lib-text_run
 lib-oom_calls lib-hordguli_c: lib-session
 lib-hordguli_c: lib-text_run lib-scripts
 lib-oom_calls: lib-test_tables
-lib-hordguli_fribidi: lib-bidi lib-reorder
+lib-hordguli_fribidi: lib-bidi lib-joining lib-reorder
 run-table_tools: lib-ucd lib-tables
 run-fribidi run-oom_driver: lib-tool
 run-fribidi: lib-tables lib-program_input

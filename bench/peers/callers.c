@@ -3,14 +3,15 @@
 #include <time.h>
 
 #define LONGEST 10000
-#define CALLS 8
+#define CALLS 12
 
 static const char *const names[CALLS] = {"get_bidi_type", "get_bidi_types", "get_bracket_types", "get_mirror_char", "get_par_direction", "get_par_embedding_levels", "get_par_embedding_levels_ex",
-                                         "reorder_line"};
+                                         "reorder_line", "get_joining_type", "get_joining_types", "join_arabic", "shape"};
 static FriBidiChar text[LONGEST], string[LONGEST];
 static FriBidiCharType types[LONGEST];
 static FriBidiBracketType brackets[LONGEST];
 static FriBidiLevel levels[LONGEST], line[LONGEST];
+static FriBidiArabicProp joining[LONGEST], joined[LONGEST], shaped[LONGEST];
 static FriBidiStrIndex map[LONGEST];
 static FriBidiParType base;
 static volatile uint64_t sink;
@@ -37,6 +38,19 @@ static void ask(const calls *of, int call, int length) {
     case 4: sink += (uint64_t)of->get_par_direction(types, length); break;
     case 5: sink += (uint64_t)of->get_par_embedding_levels(types, length, &asked, levels); break;
     case 6: sink += (uint64_t)of->get_par_embedding_levels_ex(types, brackets, length, &asked, levels); break;
+    case 8:
+        for (int k = 0; k < length; k++) sink += (uint64_t)of->get_joining_type(text[k]);
+        break;
+    case 9: of->get_joining_types(text, length, joining); break;
+    case 10:
+        memcpy(joined, joining, (size_t)length);
+        of->join_arabic(types, length, levels, joined);
+        break;
+    case 11:
+        memcpy(string, text, sizeof *string * (size_t)length);
+        memcpy(shaped, joined, (size_t)length);
+        of->shape(FRIBIDI_FLAGS_DEFAULT | FRIBIDI_FLAGS_ARABIC, levels, length, shaped, string);
+        break;
     default:
         memcpy(line, levels, (size_t)length);
         sink += (uint64_t)of->reorder_line(FRIBIDI_FLAGS_DEFAULT, types, length, 0, base, line, string, map);
@@ -82,6 +96,7 @@ int main(int argc, char **argv) {
                 ask(&both[1], 1, lengths[n]), ask(&both[1], 2, lengths[n]);
                 base = FRIBIDI_PAR_ON;
                 sink += (uint64_t)both[1].get_par_embedding_levels_ex(types, brackets, lengths[n], &base, levels);
+                ask(&both[1], 9, lengths[n]), ask(&both[1], 10, lengths[n]);
                 for (int run = 0; run < 5; run++)
                     for (int who = 0; who < 2; who++) {
                         double one = took(&both[who], call, lengths[n]);

@@ -1,4 +1,4 @@
-/* Implements FriBidi's functions on types, levels and lines on top of the proved crate hordguli_fribidi and
+/* Implements FriBidi's functions on types, levels, lines and shaping on top of the proved crate hordguli_fribidi and
  * the tables that tools/generate_fribidi_tables writes. This file checks what the crate cannot: NULL pointers
  * and negative lengths. The functions follow FriBidi's header and manual. docs/fribidi-compat.md lists the
  * differences. */
@@ -13,6 +13,7 @@ typedef uint32_t direction_number;
 typedef uint32_t bracket_number;
 typedef uint32_t character_number;
 typedef signed char level_number;
+typedef uint8_t property_number;
 
 #define LENGTH(array) (sizeof(array) / sizeof *(array))
 #define TYPES type_index, type_pages
@@ -60,6 +61,15 @@ PUBLIC int fribidi_get_mirror_char(character_number character, character_number 
     return (int)hordguli_fribidi_core_mirror(character, mirrored, MIRRORS);
 }
 
+PUBLIC property_number fribidi_get_joining_type(character_number character) {
+    return hordguli_fribidi_core_joining_type(character, TYPES);
+}
+
+PUBLIC void fribidi_get_joining_types(const character_number *string, int length, property_number *types) {
+    if (string == NULL || types == NULL || length <= 0) return;
+    hordguli_fribidi_core_joining_types(TYPES, string, (size_t)length, types, (size_t)length);
+}
+
 /* ---- Paragraphs ---- */
 
 PUBLIC direction_number fribidi_get_par_direction(const type_number *types, int length) {
@@ -91,4 +101,42 @@ PUBLIC level_number fribidi_reorder_line(uint32_t flags, const type_number *type
     end = (size_t)off + (size_t)length;
     return (level_number)hordguli_fribidi_core_reorder(flags, types, end, (size_t)off, direction, (uint8_t *)levels, end,
                                                        ROOM(string, end), ROOM(map, end));
+}
+
+/* ---- Shaping ---- */
+
+/* FriBidi's flags. */
+enum { SHAPE_MIRRORING = 0x1, SHAPE_ARAB_PRES = 0x100, SHAPE_ARAB_LIGA = 0x200, SHAPE_ARAB_CONSOLE = 0x400 };
+
+PUBLIC void fribidi_join_arabic(const type_number *types, int length, const level_number *levels,
+                                property_number *properties) {
+    if (types == NULL || levels == NULL || properties == NULL || length <= 0) return;
+    hordguli_fribidi_core_join(types, (size_t)length, (const uint8_t *)levels, (size_t)length, properties,
+                               (size_t)length);
+}
+
+PUBLIC void fribidi_shape_arabic(uint32_t flags, const level_number *levels, int length, property_number *properties,
+                                 character_number *string) {
+    size_t count = (size_t)length;
+    if (properties == NULL || string == NULL || length <= 0) return;
+    if (flags & SHAPE_ARAB_PRES) hordguli_fribidi_core_forms(forms, properties, count, string, count);
+    if ((flags & SHAPE_ARAB_LIGA) && levels != NULL)
+        hordguli_fribidi_core_ligatures((const uint8_t *)levels, count, properties, count, string, count);
+    if (flags & SHAPE_ARAB_CONSOLE) {
+        if (levels != NULL)
+            hordguli_fribidi_core_console(console_pairs, console_ligatures, (const uint8_t *)levels, count, properties,
+                                          count, string, count);
+        hordguli_fribidi_core_forms(console_forms, properties, count, string, count);
+    }
+}
+
+PUBLIC void fribidi_shape_mirroring(const level_number *levels, int length, character_number *string) {
+    if (levels == NULL || string == NULL || length <= 0) return;
+    hordguli_fribidi_core_mirrors(MIRRORS, (const uint8_t *)levels, (size_t)length, string, (size_t)length);
+}
+
+PUBLIC void fribidi_shape(uint32_t flags, const level_number *levels, int length, property_number *properties,
+                          character_number *string) {
+    fribidi_shape_arabic(flags, levels, length, properties, string);
+    if (flags & SHAPE_MIRRORING) fribidi_shape_mirroring(levels, length, string);
 }

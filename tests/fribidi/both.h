@@ -24,6 +24,12 @@ typedef struct calls {
                                                 FriBidiParType *, FriBidiLevel *);
     FriBidiLevel (*reorder_line)(FriBidiFlags, const FriBidiCharType *, FriBidiStrIndex, FriBidiStrIndex, FriBidiParType,
                                  FriBidiLevel *, FriBidiChar *, FriBidiStrIndex *);
+    FriBidiJoiningType (*get_joining_type)(FriBidiChar);
+    void (*get_joining_types)(const FriBidiChar *, FriBidiStrIndex, FriBidiJoiningType *);
+    void (*join_arabic)(const FriBidiCharType *, FriBidiStrIndex, const FriBidiLevel *, FriBidiArabicProp *);
+    void (*shape)(FriBidiFlags, const FriBidiLevel *, FriBidiStrIndex, FriBidiArabicProp *, FriBidiChar *);
+    void (*shape_arabic)(FriBidiFlags, const FriBidiLevel *, FriBidiStrIndex, FriBidiArabicProp *, FriBidiChar *);
+    void (*shape_mirroring)(const FriBidiLevel *, FriBidiStrIndex, FriBidiChar *);
 } calls;
 
 static void *found(void *handle, const char *name) {
@@ -55,6 +61,12 @@ static calls calls_of(const char *path) {
     FIND(get_par_embedding_levels);
     FIND(get_par_embedding_levels_ex);
     FIND(reorder_line);
+    FIND(get_joining_type);
+    FIND(get_joining_types);
+    FIND(join_arabic);
+    FIND(shape);
+    FIND(shape_arabic);
+    FIND(shape_mirroring);
     return all;
 }
 

@@ -122,8 +122,75 @@ static void lines(void) {
     SO(fribidi_reorder_line(0, types, 4, -1, FRIBIDI_PAR_LTR, levels, string, map) == 0);
 }
 
+static void shapes(void) {
+    enum { ALL = FRIBIDI_FLAG_SHAPE_MIRRORING | FRIBIDI_FLAGS_ARABIC };
+    const FriBidiChar word[] = {0x633, 0x644, 0x627, 0x645}; /* salam */
+    const FriBidiChar marked[] = {0x633, 0x64E, 0x644, 0x64E, 0x627};
+    const FriBidiLevel odd[] = {1, 1, 1, 1, 1}, even[] = {2, 2, 2, 2, 2};
+    FriBidiCharType types[5];
+    FriBidiJoiningType properties[5];
+    FriBidiChar string[5];
+    SO(fribidi_get_joining_type(0x633) == FRIBIDI_JOINING_TYPE_D && fribidi_get_joining_type(0x627) == FRIBIDI_JOINING_TYPE_R);
+    SO(fribidi_get_joining_type(0x640) == FRIBIDI_JOINING_TYPE_C && fribidi_get_joining_type(0x64E) == FRIBIDI_JOINING_TYPE_T);
+    SO(fribidi_get_joining_type(0x200C) == FRIBIDI_JOINING_TYPE_U && fribidi_get_joining_type(0x200D) == FRIBIDI_JOINING_TYPE_C);
+    SO(fribidi_get_joining_type(0) == FRIBIDI_JOINING_TYPE_G && fribidi_get_joining_type(0x9F) == FRIBIDI_JOINING_TYPE_G && fribidi_get_joining_type('\n') == FRIBIDI_JOINING_TYPE_U);
+    SO(fribidi_get_joining_type(0x20DD) == FRIBIDI_JOINING_TYPE_T && fribidi_get_joining_type(0xA872) == FRIBIDI_JOINING_TYPE_L);
+    SO(fribidi_get_joining_type(0xD800) == FRIBIDI_JOINING_TYPE_U && fribidi_get_joining_type(0x110000) == FRIBIDI_JOINING_TYPE_U && fribidi_get_joining_type(UINT32_MAX) == FRIBIDI_JOINING_TYPE_U);
+    fribidi_get_bidi_types(word, 4, types);
+    fribidi_get_joining_types(word, 4, properties);
+    fribidi_join_arabic(types, 4, odd, properties);
+    SO(memcmp(properties, (FriBidiArabicProp[]){6, 7, 5, 4}, 4) == 0);
+    memcpy(string, word, sizeof word);
+    fribidi_shape(ALL, odd, 4, properties, string);
+    SO(memcmp(string, (FriBidiChar[]){0xFEB3, FRIBIDI_CHAR_FILL, 0xFEFC, 0xFEE1}, sizeof word) == 0);
+    SO(memcmp(properties, (FriBidiArabicProp[]){6, 7 | FRIBIDI_MASK_LIGATURED, 5, 4}, 4) == 0);
+    fribidi_get_joining_types(word, 4, properties);
+    fribidi_join_arabic(types, 4, even, properties); /* right and left are exchanged */
+    SO(memcmp(properties, (FriBidiArabicProp[]){5, 6, 5, 6}, 4) == 0);
+    memcpy(string, word, sizeof word);
+    fribidi_shape_arabic(FRIBIDI_FLAGS_ARABIC, even, 4, properties, string);
+    SO(memcmp(string, (FriBidiChar[]){0xFEB2, 0xFEDF, 0xFE8E, 0xFEE3}, sizeof word) == 0);
+    fribidi_get_bidi_types(marked, 5, types);
+    fribidi_get_joining_types(marked, 5, properties);
+    fribidi_join_arabic(types, 5, odd, properties);
+    SO(memcmp(properties, (FriBidiArabicProp[]){6, 15, 7, 15, 5}, 5) == 0);
+    memcpy(string, marked, sizeof marked);
+    fribidi_shape(ALL, odd, 5, properties, string); /* a mark is between lam and alef */
+    SO(memcmp(string, (FriBidiChar[]){0xFEB3, 0x64E, 0xFEE0, 0x64E, 0xFE8E}, sizeof marked) == 0);
+    memcpy(string, (FriBidiChar[]){'(', 0x633, '<', 'a'}, sizeof word);
+    fribidi_shape(ALL, odd, 4, NULL, string);
+    SO(memcmp(string, (FriBidiChar[]){')', 0x633, '>', 'a'}, sizeof word) == 0);
+    fribidi_shape(FRIBIDI_FLAGS_ARABIC, odd, 4, NULL, string);
+    fribidi_shape_mirroring(even, 4, string);
+    fribidi_shape_mirroring(odd, 1, string);
+    SO(memcmp(string, (FriBidiChar[]){'(', 0x633, '>', 'a'}, sizeof word) == 0);
+    memcpy(properties, (FriBidiArabicProp[]){6, 7, 5, 4}, 4);
+    memcpy(string, word, sizeof word);
+    fribidi_shape_arabic(FRIBIDI_FLAGS_ARABIC, NULL, 4, properties, string); /* ligatures require levels */
+    SO(memcmp(string, (FriBidiChar[]){0xFEB3, 0xFEE0, 0xFE8E, 0xFEE1}, sizeof word) == 0);
+    memcpy(string, (FriBidiChar[]){0x640, 0xFE7C, 0xFE76, 0x64E, 0xFE8D}, sizeof string);
+    memcpy(properties, (FriBidiArabicProp[]){3, 12, 12, 15, 5}, 5);
+    fribidi_shape_arabic(FRIBIDI_FLAG_SHAPE_ARAB_CONSOLE, odd, 5, properties, string); /* a ligature is part of the next */
+    SO(memcmp(string, (FriBidiChar[]){FRIBIDI_CHAR_FILL, FRIBIDI_CHAR_FILL, 0xFCF2, 0xFE77, 0xFE8D}, sizeof string) == 0);
+    SO(properties[0] == (3 | FRIBIDI_MASK_LIGATURED) && properties[1] == (12 | FRIBIDI_MASK_LIGATURED) && properties[2] == 12);
+    memcpy(string, (FriBidiChar[]){0x640, 0xFE7C, 0x64E, 0x653, 'a'}, sizeof string);
+    fribidi_shape_arabic(FRIBIDI_FLAG_SHAPE_ARAB_CONSOLE, NULL, 5, (FriBidiArabicProp[]){3, 12, 12, 12, 0}, string);
+    SO(memcmp(string, (FriBidiChar[]){0x640, 0xFE7C, 0xFE76, 0x653, 'a'}, sizeof string) == 0);
+    memcpy(string, (FriBidiChar[]){0xFEB3, 0xFEE0, 0xFE8E, 0xFEE1}, sizeof word);
+    memcpy(properties, (FriBidiArabicProp[]){6, 7, 5, 4}, 4);
+    fribidi_get_joining_types(NULL, 0, NULL);
+    fribidi_join_arabic(NULL, 4, odd, properties);
+    fribidi_join_arabic(types, -1, odd, properties);
+    fribidi_join_arabic(NULL, 0, NULL, NULL);
+    fribidi_shape(ALL, odd, 0, properties, string);
+    fribidi_shape(ALL, odd, -1, properties, string);
+    fribidi_shape(ALL, odd, 4, properties, NULL);
+    fribidi_shape_mirroring(NULL, 4, string);
+    SO(memcmp(string, (FriBidiChar[]){0xFEB3, 0xFEE0, 0xFE8E, 0xFEE1}, sizeof word) == 0 && properties[1] == 7);
+}
+
 #ifdef REFUSES
-/* If an allocation fails, a function must return 0 and change nothing. Reordering a line must allocate nothing. */
+/* If an allocation fails, a function must return 0 and change nothing. Reordering a line and shaping must allocate nothing. */
 static void refusals(void) {
     const FriBidiCharType types[] = {R, FRIBIDI_TYPE_RLI, L, ON, R, ON, FRIBIDI_TYPE_LRE, FRIBIDI_TYPE_AN, FRIBIDI_TYPE_PDF, FRIBIDI_TYPE_PDI, FRIBIDI_TYPE_EN, WS};
     const FriBidiBracketType brackets[12] = {0, 0, 0, FRIBIDI_BRACKET_OPEN_MASK | '(', 0, '('};
@@ -146,6 +213,7 @@ static void refusals(void) {
         FriBidiStrIndex map[12] = {0, 1, 2, 3, 4, 5, 6, 7, 8, 9, 10, 11};
         left = 0;
         FriBidiLevel top = fribidi_reorder_line(FRIBIDI_FLAG_REORDER_NSM, types, COUNT(types), 0, FRIBIDI_PAR_RTL, levels, NULL, map);
+        shapes();
         left = -1;
         SO(alive == 0);
         SO(top != 0 && map[0] == 11);
@@ -158,6 +226,7 @@ int main(void) {
     names();
     paragraphs();
     lines();
+    shapes();
 #ifdef REFUSES
     refusals();
 #else

@@ -22,16 +22,20 @@ static void *work(void *into) {
         FriBidiCharType types[40];
         FriBidiBracketType brackets[40];
         FriBidiLevel levels[40];
+        FriBidiArabicProp properties[40];
         FriBidiStrIndex map[40], length = (FriBidiStrIndex)(1 + next(&state) % 40);
         FriBidiParType base = FRIBIDI_PAR_ON;
-        static const FriBidiChar some[] = {'a', 0x5D0, 0x627, '1', 0x661, '(', ')', ' ', '+', 0x2067, 0x2069, 0x202B, 0x202C, 0x300, '\t', '!'};
+        static const FriBidiChar some[] = {'a', 0x5D0, 0x627, 0x644, 0x661, '(', ')', ' ', '+', 0x2067, 0x2069, 0x202B, 0x202C, 0x300, '\t', '1'};
         for (int k = 0; k < length; k++) string[k] = some[next(&state) % 16], map[k] = k;
         fribidi_get_bidi_types(string, length, types);
         fribidi_get_bracket_types(string, length, types, brackets);
         sum = sum * 31 + (uint64_t)fribidi_get_par_direction(types, length);
         sum = sum * 31 + (uint64_t)fribidi_get_par_embedding_levels_ex(types, brackets, length, &base, levels);
+        fribidi_get_joining_types(string, length, properties);
+        fribidi_join_arabic(types, length, levels, properties);
+        fribidi_shape(FRIBIDI_FLAG_SHAPE_MIRRORING | FRIBIDI_FLAGS_ARABIC, levels, length, properties, string);
         sum = sum * 31 + (uint64_t)fribidi_reorder_line(FRIBIDI_FLAG_REORDER_NSM, types, length, 0, base, levels, string, map);
-        for (int k = 0; k < length; k++) sum = sum * 31 + (uint64_t)levels[k] * 7 + (uint64_t)map[k] + string[k];
+        for (int k = 0; k < length; k++) sum = sum * 31 + (uint64_t)levels[k] * 7 + (uint64_t)map[k] + string[k] + properties[k];
     }
     *(uint64_t *)into = sum;
     return NULL;

@@ -1,1 +1,3 @@
 mod BracketLemmas
+mod JoinerLemmas
+mod InPlaceLemmas

@@ -3,6 +3,8 @@
 #![tactic(auto)]
 
 mod characters;
+mod joins;
 mod levels;
 mod line;
+mod shapes;
 mod types;

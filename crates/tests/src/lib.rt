@@ -1,8 +1,10 @@
-//! Tests of tables, levels, scripts, marks, stores, streams and terminal output, through public calls.
+//! Tests of tables, levels, joins, scripts, marks, stores, streams and terminal output, through public calls.
 #![tactic(auto)]
 
 #[cfg(test)]
 mod files;
+#[cfg(test)]
+mod joins;
 #[cfg(test)]
 mod level_reasons;
 #[cfg(test)]

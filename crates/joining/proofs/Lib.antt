@@ -1,0 +1,4 @@
+mod InsertionLemmas
+mod JoinLemmas
+mod PairLemmas
+mod WorkedRows

@@ -1,0 +1,5 @@
+pub mod Joiners
+pub mod Joins
+pub mod Ligatures
+pub mod Pairs
+pub mod Forms

@@ -1,0 +1,33 @@
+//! Cursive joining (the Unicode Standard, section 9.2, rules R1 to R7 and L1 to L3): which characters join,
+//! the forms of letters, and the ligatures of lam and alef.
+//!
+//! ```rust
+//! let lam = Joiner {
+//!     joining: JoiningType::for_char('ل'),
+//!     level: Some(1),
+//! };
+//! let alef = Joiner {
+//!     joining: JoiningType::for_char('ا'),
+//!     level: Some(1),
+//! };
+//! let text = ListedJoiners {
+//!     joiners: &[lam, alef],
+//! };
+//! assert!(rt; next_joined(&text, Agreement::All, 0) == Some(1));
+//! ```
+//!
+//! The property Joining_Type comes from the kit's crate `ucd_bidi`.
+#![tactic(auto)]
+
+mod form;
+mod joiner;
+mod joins;
+mod ligature;
+mod pairs;
+
+pub use form::Form;
+pub use joiner::{Agreement, Joiner, Joiners, ListedJoiners};
+pub use joins::next_joined;
+pub use ligature::lam_alef;
+pub use pairs::{joins_are_mutual, only_joining_types_join, transparent_characters_change_nothing};
+pub use ucd_bidi::JoiningType;
