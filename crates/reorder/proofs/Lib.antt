@@ -1,4 +1,5 @@
 pub mod OrderLemmas
+mod MirrorLemmas
 pub mod RunLemmas
 pub mod GroupLemmas
 pub mod InverseLemmas

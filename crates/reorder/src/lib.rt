@@ -28,7 +28,7 @@ mod spaces;
 
 pub use clusters::{ClusterClasses, clusters_stand_together, single_characters_stay};
 pub use in_place::{highest_and_lowest_odd, reorder_in_place};
-pub use mirror::{visual_chars, visual_runs};
+pub use mirror::{show_places, visual_chars, visual_runs};
 pub use order::{
     groups_stand_together, identity, level_run_len, maps_are_inverse, order_runs, others_stay,
     visual_order, visual_places,

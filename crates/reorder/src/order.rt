@@ -81,6 +81,18 @@ fn count_from(start: u32, items: &mut [u32])
     }
 }
 
+// Sets the items to consecutive numbers in descending order. The last one is `start`.
+fn count_down_to(start: u32, items: &mut [u32])
+    requires { start + length items.old ≤ u32.MAX }
+    ensures { items.new ≡ reverse (range_with_len start (length items.old)) }
+{
+    let mut next = start + items.len() as u32;
+    for item in items.iter_mut() {
+        next -= 1;
+        *item = next;
+    }
+}
+
 /// Writes the logical position of each visual position of a line to `vtol`. With `reordernsm`, also applies
 /// L3.
 pub fn visual_places<C: Classes>(line: &C, levels: &[u8], reordernsm: bool, vtol: &mut [u32])
@@ -264,9 +276,10 @@ fn lay_run(start: u32, is_odd: bool, items: &mut [u32])
     ensures { items.new ≡ (if is_odd then reverse (range_with_len start (length items.old))
         else range_with_len start (length items.old)) }
 {
-    count_from(start, items);
     if is_odd {
-        items.reverse();
+        count_down_to(start, items);
+    } else {
+        count_from(start, items);
     }
 }
 
