@@ -2,6 +2,7 @@
  * edits insert or delete characters next to one of the same kind, which must not analyse the paragraph again. Usage: random
  * FOLDER CHANGES [17.0], where FOLDER has the table files, by default of Unicode 15.0. */
 #include "test.h"
+#include "kinds.h"
 #include "snapshot.h"
 
 enum { MOST = 300, BYTES = 1 << 20 };
@@ -166,23 +167,10 @@ static void text_alone_is_that_of_session(hordguli_session *session, const char 
 static uint32_t text[MOST * 4];
 static size_t length;
 
-/* Characters of the same kind: letters, digits, ideographs and spaces. */
-static const uint32_t kinds[][2] = {
-    {'a', 'z'}, {'0', '9'}, {0x5D0, 0x5EA}, {0x628, 0x63A}, {0x661, 0x669}, {0x4E00, 0x9FA5}, {' ', ' '},
-};
-enum { KINDS = sizeof kinds / sizeof *kinds };
-
-/* Returns the number of a character's kind, or `KINDS` if it has none of them. */
-static size_t kind_of(uint32_t character) {
-    size_t kind = 0;
-    while (kind < KINDS && (character < kinds[kind][0] || character > kinds[kind][1])) kind++;
-    return kind;
-}
-
 /* Returns up to three characters of the kind of the character before `pos`, or none if that has no kind. */
 static size_t typed(size_t pos, uint32_t *piece) {
     size_t kind = kind_of(text[pos - 1]), count = kind < KINDS ? below(4) : 0;
-    for (size_t k = 0; k < count; k++) piece[k] = kinds[kind][0] + (uint32_t)below(kinds[kind][1] - kinds[kind][0] + 1);
+    for (size_t k = 0; k < count; k++) piece[k] = one_of_kind(kind);
     return count;
 }
 

@@ -42,6 +42,12 @@ unpacked_is starts parts same =
     (subst (λ (n : ℕ). take n items ≡ starts) count (take-append_seam starts (in_pairs parts)))
     (subst (λ (n : ℕ). from_pairs (drop n items) ≡ parts) count (ap from_pairs (drop-append_seam starts (in_pairs parts)) ∙ from_in parts))
 
+pub starts_in : (items starts : List ℕ) (parts : List Shown) → length parts ≡ length starts → items ≡ starts ++ in_pairs parts → (unpacked items).starts ≡ starts
+starts_in items starts parts same is = ap (λ (e : LineExtents). e.starts) (ap unpacked is ∙ unpacked_is starts parts same)
+
+pub parts_in : (items starts : List ℕ) (parts : List Shown) → length parts ≡ length starts → items ≡ starts ++ in_pairs parts → (unpacked items).shown ≡ parts
+parts_in items starts parts same is = ap (λ (e : LineExtents). e.shown) (ap unpacked is ∙ unpacked_is starts parts same)
+
 -- the k-th shown part has the k-th pair
 pub pair_at : (items : List ℕ) (k : ℕ) (d : Shown) → 2 * k + 1 < length items
     → get_or (from_pairs items) k d ≡ record { len = get_or items (2 * k) 0; columns = get_or items (2 * k + 1) 0 }

@@ -39,6 +39,10 @@ pub mod ShownPartLemmas
 mod SizedLemmas
 pub mod SkippedLemmas
 mod SpanLemmas
+mod EditedLemmas
+mod RefilledLemmas
+mod SplicedExtents
+mod SplicedLemmas
 pub mod SplicingLemmas
 mod SplitLemmas
 mod StayLemmas

@@ -20,7 +20,7 @@ take_within (x ∷ xs) (suc i) zero le = absurd (omega (arith, le))
 take_within (x ∷ xs) (suc i) (suc j) le = ap (λ (ys : List _). x ∷ ys) (take_within xs i j (omega (arith, le)))
 
 -- the items before index n determine each part before it
-range_before : {X : Type 0} (xs : List X) (n a e : ℕ) → a ≤ e → e ≤ n → slice_range (take n xs) a e ≡ slice_range xs a e
+pub range_before : {X : Type 0} (xs : List X) (n a e : ℕ) → a ≤ e → e ≤ n → slice_range (take n xs) a e ≡ slice_range xs a e
 range_before xs n a e order within =
     let all : n ≡ a + (n - a) = omega (arith, order, within) in
     ap (λ m. take (e - a) (drop a (take m xs))) all
@@ -41,23 +41,23 @@ same_after xs ys u v a e same low =
     ∙ ap (λ i. take (e - a) (drop i xs)) place
 
 -- a list around the item at index i
-around : (xs : List ℕ) (i s : ℕ) → slice_get xs i ≡ Some s → xs ≡ take i xs ++ s ∷ drop (suc i) xs
+pub around : (xs : List ℕ) (i s : ℕ) → slice_get xs i ≡ Some s → xs ≡ take i xs ++ s ∷ drop (suc i) xs
 around [] i s e = absurd (none-some s (e))
 around (x ∷ xs) zero s e = ap (λ m. m ∷ xs) (same_Some x s e)
 around (x ∷ xs) (suc i) s e = ap (λ (ys : List ℕ). x ∷ ys) (around xs i s e)
 
-dropped : (xs : List ℕ) (i s : ℕ) → slice_get xs i ≡ Some s → drop i xs ≡ s ∷ drop (suc i) xs
+pub dropped : (xs : List ℕ) (i s : ℕ) → slice_get xs i ≡ Some s → drop i xs ≡ s ∷ drop (suc i) xs
 dropped [] i s e = absurd (none-some s (e))
 dropped (x ∷ xs) zero s e = ap (λ m. m ∷ xs) (same_Some x s e)
 dropped (x ∷ xs) (suc i) s e = dropped xs i s e
 
 -- ---- rising numbers
 
-rise_low : (low : ℕ) (front : List ℕ) (x : ℕ) (back : List ℕ) → Rise low (front ++ x ∷ back) → low ≤ x
+pub rise_low : (low : ℕ) (front : List ℕ) (x : ℕ) (back : List ℕ) → Rise low (front ++ x ∷ back) → low ≤ x
 rise_low low [] x back rise = rise.0
 rise_low low (a ∷ front) x back rise = omega (arith, rise.0, rise_low (suc a) front x back rise.1)
 
-rise_after : (low : ℕ) (front : List ℕ) (x : ℕ) (back : List ℕ) → Rise low (front ++ x ∷ back) → Rise x (x ∷ back)
+pub rise_after : (low : ℕ) (front : List ℕ) (x : ℕ) (back : List ℕ) → Rise low (front ++ x ∷ back) → Rise x (x ∷ back)
 rise_after low [] x back rise = (omega arith, rise.1)
 rise_after low (a ∷ front) x back rise = rise_after (suc a) front x back rise.1
 
@@ -68,23 +68,23 @@ module _ (tables : Tables) (options : Options) (margin : Option ℕ) (base : ℕ
   abbrev to : Analysed → ℕ → List ℕ → List Line
   to of end starts = lines_to tables options margin base of end starts
 
-  from_is : (of : Analysed) (starts : List ℕ) → lines_at tables options margin base of starts ≡ to of (length of.text) starts
+  pub from_is : (of : Analysed) (starts : List ℕ) → lines_at tables options margin base of starts ≡ to of (length of.text) starts
   from_is of [] = refl
   from_is of (s ∷ []) = refl
   from_is of (s ∷ t ∷ starts) = ap (λ (ls : List Line). between of s t ∷ ls) (from_is of (t ∷ starts))
 
-  to_append : (of : Analysed) (end : ℕ) (front : List ℕ) (x : ℕ) (back : List ℕ) → to of end (front ++ x ∷ back) ≡ to of x front ++ to of end (x ∷ back)
+  pub to_append : (of : Analysed) (end : ℕ) (front : List ℕ) (x : ℕ) (back : List ℕ) → to of end (front ++ x ∷ back) ≡ to of x front ++ to of end (x ∷ back)
   to_append of end [] x back = refl
   to_append of end (a ∷ []) x back = refl
   to_append of end (a ∷ c ∷ front) x back = ap (λ (ls : List Line). between of a c ∷ ls) (to_append of end (c ∷ front) x back)
 
-  length-to : (of : Analysed) (end : ℕ) (starts : List ℕ) → length (to of end starts) ≡ length starts
+  pub length-to : (of : Analysed) (end : ℕ) (starts : List ℕ) → length (to of end starts) ≡ length starts
   length-to of end [] = refl
   length-to of end (s ∷ []) = refl
   length-to of end (s ∷ t ∷ starts) = ap suc (length-to of end (t ∷ starts))
 
   -- the first i lines, and those from the b-th one on
-  take_lines : (of : Analysed) (end : ℕ) (starts : List ℕ) (i s : ℕ) → slice_get starts i ≡ Some s → take i (to of end starts) ≡ to of s (take i starts)
+  pub take_lines : (of : Analysed) (end : ℕ) (starts : List ℕ) (i s : ℕ) → slice_get starts i ≡ Some s → take i (to of end starts) ≡ to of s (take i starts)
   take_lines of end starts i s found =
       let lines : List Line = to of s (take i starts) in
       let size : length lines ≡ i = length-to of s (take i starts) ∙ length-take-le i starts (omega (arith, slice_get_within starts i s found)) in
@@ -93,7 +93,7 @@ module _ (tables : Tables) (options : Options) (margin : Option ℕ) (base : ℕ
       ∙ ap (λ n. take n (lines ++ to of end (s ∷ drop (suc i) starts))) (sym size)
       ∙ take-append_seam lines (to of end (s ∷ drop (suc i) starts))
 
-  drop_lines : (of : Analysed) (end : ℕ) (starts : List ℕ) (b u : ℕ) → slice_get starts b ≡ Some u → drop b (to of end starts) ≡ to of end (drop b starts)
+  pub drop_lines : (of : Analysed) (end : ℕ) (starts : List ℕ) (b u : ℕ) → slice_get starts b ≡ Some u → drop b (to of end starts) ≡ to of end (drop b starts)
   drop_lines of end starts b u found =
       let lines : List Line = to of u (take b starts) in
       let size : length lines ≡ b = length-to of u (take b starts) ∙ length-take-le b starts (omega (arith, slice_get_within starts b u found)) in
@@ -117,7 +117,7 @@ module _ (tables : Tables) (options : Options) (margin : Option ℕ) (base : ℕ
           (same_before old.infos new.infos n s e agree.infos order within)
           (same_before (ends_by options old.text) (ends_by options new.text) n s e agree.ends order within)
 
-      lines_stay : (low : ℕ) (front : List ℕ) (x : ℕ) (back : List ℕ) → Rise low (front ++ x ∷ back) → x ≤ n → to new x front ≡ to old x front
+      pub lines_stay : (low : ℕ) (front : List ℕ) (x : ℕ) (back : List ℕ) → Rise low (front ++ x ∷ back) → x ≤ n → to new x front ≡ to old x front
       lines_stay low [] x back rise within = refl
       lines_stay low (a ∷ []) x back rise within = ap (λ line. line ∷ []) (line_stays a x (omega (arith, rise.1.0)) within)
       lines_stay low (a ∷ c ∷ front) x back rise within =
@@ -131,7 +131,7 @@ module _ (tables : Tables) (options : Options) (margin : Option ℕ) (base : ℕ
           (same_after old.infos new.infos u v s e agree.infos low)
           (same_after (ends_by options old.text) (ends_by options new.text) u v s e agree.ends low)
 
-      lines_move : (low end : ℕ) (starts : List ℕ) → u ≤ low → Rise low starts → to new (v + (end - u)) (map (moved_start u v) starts) ≡ map (moved u v) (to old end starts)
+      pub lines_move : (low end : ℕ) (starts : List ℕ) → u ≤ low → Rise low starts → to new (v + (end - u)) (map (moved_start u v) starts) ≡ map (moved u v) (to old end starts)
       lines_move low end [] from rise = refl
       lines_move low end (s ∷ []) from rise = ap (λ line. line ∷ []) (line_moves s end (omega (arith, from, rise.0)))
       lines_move low end (s ∷ t ∷ starts) from rise =

@@ -151,7 +151,7 @@ module _ (w x : ℕ) (split : can_split w x ≡ true) (far : List ℕ) where
   ends_by ys (c ∷ text) = ap₂ ◌∷◌ (break_by (c ∷ ys) text) (ends_by (c ∷ ys) text)
 
 -- the rules read only the next character
-next_only : (before : List ℕ) (next : ℕ) (far near : List ℕ) → is_grapheme_break true before (next ∷ far) ≡ is_grapheme_break true before (next ∷ near)
+pub next_only : (before : List ℕ) (next : ℕ) (far near : List ℕ) → is_grapheme_break true before (next ∷ far) ≡ is_grapheme_break true before (next ∷ near)
 unfolding is_grapheme_break
 next_only [] next far near = refl
 next_only (c ∷ before) next far near = refl

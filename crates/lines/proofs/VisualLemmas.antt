@@ -37,7 +37,7 @@ rise_to low n m [] below rise = tt
 rise_to low n m (x ∷ xs) below rise = (rise.0, omega (arith, below, rise.1), rise_to (suc x) n m xs below rise.2)
 
 -- line starts are strictly ascending
-starts_rise : (nobreak : Bool) (width place left n : ℕ) (rest : List CharInfo) → place + length rest ≡ n → Rise (place + left) n (starts nobreak width place left rest)
+pub starts_rise : (nobreak : Bool) (width place left n : ℕ) (rest : List CharInfo) → place + length rest ≡ n → Rise (place + left) n (starts nobreak width place left rest)
 starts_rise nobreak width place zero n [] e = tt
 starts_rise nobreak width place (suc left) n [] e = tt
 starts_rise nobreak width place zero n (p ∷ rest) e = (
@@ -60,7 +60,7 @@ length-take-most : {X : Type 0} (n : ℕ) (xs : List X) → length (take n xs) �
 length-take-most n xs = omega (arith, length-take n xs)
 
 -- the shown part of a line is no longer than the line
-levels_most : (tables : Tables) (options : Options) (margin : Option ℕ) (base : ℕ) (text levels : List ℕ) (ps : List CharInfo) (s e : ℕ) → length (line_between tables options margin base text levels ps s e).levels ≤ e - s
+pub levels_most : (tables : Tables) (options : Options) (margin : Option ℕ) (base : ℕ) (text levels : List ℕ) (ps : List CharInfo) (s e : ℕ) → length (line_between tables options margin base text levels ps s e).levels ≤ e - s
 levels_most tables options margin base text levels ps s e =
     let span : List CharInfo = slice_range ps s e in
     omega (

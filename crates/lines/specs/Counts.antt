@@ -36,3 +36,9 @@ pub record FindsSome (n : ℕ) (old new : Counts) : Type 0 where
   pub analysed : new.analysed ≡ old.analysed
   pub filled : RisesBy n old.filled new.filled
   pub written : new.written ≡ old.written
+
+-- no counter increases
+pub record IsSameCount (old new : Counts) : Type 0 where
+  pub analysed : new.analysed ≡ old.analysed
+  pub filled : new.filled ≡ old.filled
+  pub written : new.written ≡ old.written

@@ -124,6 +124,11 @@ pub record IsLaidOut (rules : Rules) (layout : Layout) : Type 0 where
   pub paragraph : IsParagraph rules layout.text
   pub from_scratch : layout ≡ layout_of rules width layout.text
 
+-- whether a layout is the fresh layout, at this width, of a text that is one paragraph
+pub record IsLaidAt (rules : Rules) (width : ℕ) (layout : Layout) : Type 0 where
+  pub paragraph : IsParagraph rules layout.text
+  pub from_scratch : layout ≡ layout_of rules width layout.text
+
 -- whether the lines are those of a text at some width
 pub record AreLinesOf (rules : Rules) (text : List ℕ) (fill : Filled) : Type 0 where
   pub width : ℕ

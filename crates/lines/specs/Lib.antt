@@ -35,6 +35,7 @@ pub mod Separators
 pub mod Showing
 pub mod ShownParts
 pub mod Spans
+pub mod Spliced
 pub mod Splicing
 pub mod FitsUpTo
 pub mod TabStops
@@ -43,5 +44,6 @@ pub mod Reordering
 pub mod Visual
 pub mod Whole
 pub mod Widths
+pub mod Windows
 pub mod Words
 pub mod Writing

@@ -8,7 +8,7 @@ use Rattle.bidi.specs.Doubling as bidi
 use Rattle.breaks.specs.Bases.{character}
 use Rattle.breaks.specs.Doubling as breaks
 use Rattle.breaks.specs.declared.mark.Mark.{Mark}
-use Rattle.lines.specs.Layouts.{with_advances, IsLaidOut, Rules}
+use Rattle.lines.specs.Layouts.{with_advances, IsLaidAt, Rules}
 use Rattle.lines.specs.declared.same_kind.Replacement.{Replacement}
 use Rattle.lines.specs.declared.same_kind.RunChange.{RunChange}
 use Rattle.lines.specs.declared.same_kind.RunEdit.{RunEdit}
@@ -57,9 +57,9 @@ abbrev pub IsInRun : Tables → List ℕ → List ℕ → Replacement → Type 0
 IsInRun tables old new edit =
     (at : ℕ) × (mark : Mark) × (((0 < edit.at) × (at + 1 ≡ edit.at)) ⊎ (at ≡ edit.at)) × IsRunEdit tables old new (run_from at (edit.removed + 1) (edit.inserted + 1) mark)
 
--- whether a paragraph is laid out, and the run edit makes this text of it
-pub record MakesText (rules : Rules) (change : RunChange) (text : List ℕ) : Type 0 where
-  pub laid : IsLaidOut (with_advances rules change.laid.now.advances) change.laid.now
+-- whether a paragraph is laid out at this width, and the run edit makes this text of it
+pub record MakesText (rules : Rules) (width : ℕ) (change : RunChange) (text : List ℕ) : Type 0 where
+  pub laid : IsLaidAt (with_advances rules change.laid.now.advances) width change.laid.now
   pub run : IsRunEdit rules.tables change.laid.now.text text change.run
 
 -- the levels after such an edit: all characters of the run have the same level

@@ -11,7 +11,7 @@ ghost use Rattle.lines.specs.Clusters.{cluster_ends};
 ghost use Rattle.lines.specs.CharInfos.{columns_of, info, infos_of, trailing_by};
 ghost use Rattle.lines.specs.Filling.{is_must};
 ghost use Rattle.lines.specs.Paragraphs.{IsLookedUp};
-ghost use Rattle.lines.specs.Tabs.{is_tab};
+ghost use Rattle.lines.specs.Tabs.{is_tab, tab_width_in};
 
 use crate::column_cache::ColumnCache;
 use crate::paragraph::Text;
@@ -237,8 +237,26 @@ impl InfoBuffers {
             ≡ infos_of text.now.rules.tables.now text.now.rules.options None text.now.characters.now) }
         ensures len { OnOk result (length text.now.characters.now ≤ length self.new.infos.items) }
     {
+        marks_are_as_many(
+            text.rules.tables,
+            text.characters,
+            text.rules.options.whole_numbers,
+        );
+        self.fill_with(text, marks)
+    }
+
+    /// Writes the info for each character of a text with these break marks to the front of `infos`. Each
+    /// `ends_cluster` is `false`.
+    pub(crate) fn fill_with(&mut self, text: &Text<'_>, marks: &[Mark]) -> Result<(), AllocError>
+        requires text { IsLookedUp text.now }
+        requires marks { length marks.now ≡ length text.now.characters.now }
+        ensures infos { OnOk result (take (length text.now.characters.now) self.new.infos.items
+            ≡ bare_infos text.now.rules.tables.now
+            (tab_width_in text.now.rules.tables.now text.now.rules.options)
+            text.now.characters.now marks.now) }
+        ensures len { OnOk result (length text.now.characters.now ≤ length self.new.infos.items) }
+    {
         let (tables, characters) = (text.rules.tables, text.characters);
-        marks_are_as_many(tables, characters, text.rules.options.whole_numbers);
         grow(&mut self.infos, characters.len(), NOTHING)?;
         self.cache.prepare()?;
         let tab_width = text.rules.tab_width();

@@ -232,9 +232,9 @@ fn window_end(text: &[char], k: usize) -> usize
     text.len()
 }
 
-// Returns whether the characters before and after index `k` show that `k` is a split point. If so, the
-// clusters of the text before `k` and of the text from `k` on are the clusters of the whole text.
-fn is_split_point(text: &[char], k: usize) -> bool
+/// Returns whether the characters before and after index `k` show that `k` is a split point. If so, the
+/// clusters of the text before `k` and of the text from `k` on are the clusters of the whole text.
+pub(crate) fn is_split_point(text: &[char], k: usize) -> bool
     requires some { 0 < k }
     requires within { k < length text.now }
     ensures { result ≡ is_split_point text.now k }

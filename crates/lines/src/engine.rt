@@ -92,6 +92,15 @@ impl Model for Engine {
     } };
 }
 
+// Moves a layout into a box.
+#[inline(never)] // so that callers do not copy the layout in case this fails
+fn boxed(alloc: Global, laid: Laid) -> Result<Box<Laid>, AllocError>
+    ensures { IfOk result (λ boxed. boxed.value ≡ laid) }
+{
+    let boxed = Box::new(alloc, laid)?;
+    Ok(boxed)
+}
+
 impl Engine {
     ghost use Rattle.std.specs.Prelude.{◌^◌, List, None, Option, Some, option_map, sum};
     ghost use Rattle.bidi.specs.Cuts.{first_cut, SplitsAt};
@@ -310,6 +319,40 @@ impl Engine {
             }),
             Err(error) => Err((text, error)),
         }
+    }
+
+    /// Like `lay_out`, but puts the layout in a box. If an allocation fails, the text is freed.
+    pub fn lay_out_boxed(
+        &mut self,
+        alloc: Global,
+        text: Vec<char>,
+        width: u32,
+    ) -> Result<Box<Laid>, AllocError>
+        requires paragraph { IsParagraph (rules_of self.old) text.items }
+        requires width { 0 < width }
+        ensures ok { IfOk result (λ laid. laid.value ≡ layout_of (rules_of self.old) width text.items) }
+        ensures counts { IfOk result (λ laid. LaysOut (length text.items) self.old self.new) }
+        ensures at_most { LaysOutAtMost (length text.items) self.old self.new }
+
+        // The engine's own rules are those for text that is not measured.
+        ensures unmeasured { (rules_of self.old).advances ≡ None }
+        ensures rules { SameRules self.old self.new }
+    {
+        let mut lists = LayoutBuffers::new(alloc);
+        let base = self.fill_lists(alloc, &text, None, width, &mut lists)?;
+        let tab_width = self.tab_width();
+        let laid = Laid {
+            text,
+            base,
+            tab_width,
+            is_measured: false,
+            sizes: Vec::new(alloc),
+            levels: lists.levels,
+            marks: lists.marks,
+            ends: lists.ends,
+            lines: Fill::of(lists.lines),
+        };
+        boxed(alloc, laid)
     }
 
     /// Lays out one paragraph that is measured: each character has an advance in a unit that the caller

@@ -1,14 +1,16 @@
 //! Where each line of a paragraph starts at a width, and how much of it is shown.
-ghost use Rattle.std.specs.Prelude.{◌≡◌, ◌^◌, ◌<◌, ◌≤◌, ℕ, [], ◌∷◌, length, sum, option_map, IfSome, OnOk};
-ghost use Rattle.std.specs.Prelude.{slice_index, slice_index_or};
+ghost use Rattle.std.specs.Prelude.{◌≡◌, ◌+◌, ◌^◌, ◌<◌, ◌≤◌, ℕ, [], ◌∷◌, length, sum, IfSome, OnOk};
+ghost use Rattle.std.specs.Prelude.{option_map, ◌++◌, All, drop, slice_index, slice_index_or, slice_range};
 ghost use Rattle.lines.specs.Bare.{with_ends};
 ghost use Rattle.lines.specs.CharInfos.{sized};
 ghost use Rattle.lines.specs.Clusters.{cluster_ends};
-ghost use Rattle.lines.specs.Extents.{shown_from};
+ghost use Rattle.lines.specs.Extents.{in_pairs, shown_from};
 ghost use Rattle.lines.specs.Filling.{line_starts_of};
 ghost use Rattle.lines.specs.Kept.{AreStarts};
 ghost use Rattle.lines.specs.Showing.{nothing_shown};
 ghost use Rattle.lines.specs.ShownParts.{margin_of};
+ghost use Rattle.lines.specs.Spliced.{spliced_shown, spliced_starts};
+ghost use Rattle.lines.specs.Splicing.{moved_start};
 ghost use Rattle.lines.specs.Visual.{end_of};
 ghost use Rattle.lines.specs.declared.engine.TheConstants.{PARAGRAPH_LIMIT};
 
@@ -18,8 +20,10 @@ use crate::counts::Counted;
 use crate::fill::Shown;
 use crate::filling::line_starts;
 use crate::options::Options;
+use crate::reserve::reserve;
 use crate::shown_parts::fill_shown;
 use crate::sizes::{ByAdvances, ByColumns, Ruler, Sizes};
+use crate::splicing::{Gap, push_starts};
 use std::alloc::{AllocError, Global};
 use std::marker::Model;
 
@@ -84,6 +88,86 @@ impl Extents {
         ensures { self.new ≡ record { starts = 0 ∷ []; shown = shown ∷ [] } }
     {
         self.line = Some(shown);
+    }
+
+    /// Replaces the extents with those of the lines that start at `starts`. The lines are not measured.
+    pub(crate) fn put_starts(
+        &mut self,
+        starts: &[u32],
+        infos: &[CharInfo],
+        margin: Option<u32>,
+        _filled: Counted,
+    ) -> Result<(), AllocError>
+        requires counted { _filled ≡ length infos.now }
+        requires within { length infos.now ≤ PARAGRAPH_LIMIT }
+        requires ordered { AreStarts (length infos.now) starts.now }
+        ensures starts { OnOk result (self.new.starts ≡ starts.now) }
+        ensures shown { OnOk result (self.new.shown
+            ≡ shown_from margin (length infos.now) infos.now starts.now) }
+    {
+        self.line = None;
+        self.items.clear();
+        self.items.extend_from_slice(starts)?;
+        fill_shown(infos, ByColumns, margin, &mut self.items)
+    }
+
+    /// Replaces the extents with those of the lines of a paragraph, of which those of a window of `len`
+    /// characters replace the ones in `gap`. The lines after the gap move with their characters.
+    pub(crate) fn put_spliced(
+        &mut self,
+        old: &Extents,
+        gap: Gap,
+        window: &Extents,
+        len: usize,
+    ) -> Result<(), AllocError>
+        requires limit { gap.start + len ≤ PARAGRAPH_LIMIT }
+        requires old { length old.now.shown ≡ length old.now.starts }
+        requires window { length window.now.shown ≡ length window.now.starts }
+        requires fits { All (λ start. moved_start 0 gap.start start < 2 ^ 32) window.now.starts }
+        requires after { All (λ start. gap.end ≤ start) (drop gap.end_line old.now.starts) }
+        requires fits_after { All (λ start. moved_start gap.end (gap.start + len) start < 2 ^ 32)
+            (drop gap.end_line old.now.starts) }
+        ensures starts { OnOk result
+            (self.new.starts ≡ spliced_starts gap len old.now.starts window.now.starts) }
+        ensures shown { OnOk result
+            (self.new.shown ≡ spliced_shown gap old.now.shown window.now.shown) }
+    {
+        let (starts, between) = (old.starts(), window.starts());
+        let line = gap.line.min(starts.len());
+        let end_line = gap.end_line.min(starts.len());
+        let count = line + between.len() + (starts.len() - end_line);
+        self.line = None;
+        self.items.clear();
+        let items = &mut self.items;
+        reserve(items, count.saturating_mul(3))?;
+        items.extend_from_slice(&starts[..line])?;
+        push_starts(between, 0, gap.start, items)?;
+        push_starts(&starts[end_line..], gap.end, gap.start + len, items)?;
+        old.push_shown(0, line, items)?;
+        window.push_shown(0, between.len(), items)?;
+        old.push_shown(end_line, starts.len(), items)
+    }
+
+    // Appends the length and the columns of the shown parts of lines `from..to`.
+    fn push_shown(&self, from: usize, to: usize, list: &mut Vec<u32>) -> Result<(), AllocError>
+        requires order { from ≤ to }
+        requires within { to ≤ length self.now.starts }
+        ensures { OnOk result
+            (list.new.items ≡ list.old.items ++ in_pairs (slice_range self.now.shown from to)) }
+    {
+        match self.line {
+            Some(shown) => {
+                if from < to {
+                    list.push(shown.len)?;
+                    list.push(shown.columns)?;
+                }
+                Ok(())
+            }
+            None => {
+                let count = self.items.len() / 3;
+                list.extend_from_slice(&self.items[count + 2 * from..count + 2 * to])
+            }
+        }
     }
 
     /// Finds where each line of a paragraph starts, and how much of it is shown. The ruler's sizes must be

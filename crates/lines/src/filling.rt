@@ -1,6 +1,6 @@
 //! Finds where the lines of a paragraph start.
 ghost use Rattle.std.specs.Prelude.{◌≡◌, ◌+◌, ◌&&◌, ◌||◌, ◌<◌, ◌≤◌, ℕ, suc, Bool, List, length, drop};
-ghost use Rattle.std.specs.Prelude.{false, IsTrue, None, IfOk, IfSome, OnErr, OnOk};
+ghost use Rattle.std.specs.Prelude.{false, true, IsTrue, None, IfOk, IfSome, OnErr, OnOk};
 ghost use Rattle.bidi.specs.Brackets.{greatest};
 ghost use Rattle.lines.specs.Bare.{AreAlike, with_ends};
 ghost use Rattle.lines.specs.CharInfos.{sized};
@@ -15,7 +15,7 @@ ghost use Rattle.lines.specs.declared.engine.TheConstants.{PARAGRAPH_LIMIT};
 use crate::char_info::{CharInfo, GROUP, is_must};
 use crate::clusters::ClusterBuffers;
 use crate::counts::Counted;
-use crate::sizes::{Ruler, Sizes};
+use crate::sizes::{ByColumns, Ruler, Sizes};
 use breaks::Mark;
 use std::alloc::AllocError;
 
@@ -49,6 +49,35 @@ pub(crate) fn line_starts<S: Sizes>(
         is_known = known;
     }
     Ok(())
+}
+
+/// Like `line_starts` for text that is not measured, but does not find the cluster ends. Returns `false` if
+/// the start of a line depends on them.
+pub(crate) fn line_starts_by_breaks(
+    infos: &[CharInfo],
+    width: u32,
+    nobreak: bool,
+    starts: &mut Vec<u32>,
+) -> Result<bool, AllocError>
+    requires within { length infos.now ≤ PARAGRAPH_LIMIT }
+    ensures lines { IfOk result (λ all. all ≡ true → (known : List CharInfo) → AreAlike infos.now known
+        → starts.new.items ≡ line_starts_of nobreak width known) }
+    ensures starts { IfOk result (λ all. all ≡ true → AreStarts (length infos.now) starts.new.items) }
+{
+    starts.clear();
+    let ruler = Ruler {
+        sizes: ByColumns,
+        width,
+    };
+    let mut start = 0;
+    while start < infos.len() {
+        let Some(len) = broken_len(&infos[start..], ruler, nobreak) else {
+            return Ok(false);
+        };
+        starts.push(start as u32)?;
+        start += len;
+    }
+    Ok(true)
 }
 
 // Returns the length of the line that begins at `start`, and whether `infos` now contains the cluster ends.

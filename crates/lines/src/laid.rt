@@ -167,6 +167,14 @@ impl Laid {
         }
     }
 
+    /// Returns the lines.
+    pub(crate) fn lines(&self) -> &Fill
+        ensures lines { result.now.lines ≡ self.now.lines }
+        ensures len { result.now.len ≡ length self.now.text }
+    {
+        &self.lines
+    }
+
     /// Returns where each line starts, in characters from the start of the paragraph.
     pub fn line_starts(&self) -> &[u32]
         ensures { result.now ≡ map start_of self.now.lines }

@@ -23,6 +23,7 @@ use crate::properties::fill_properties;
 use crate::same_kind::{RunChange, put_levels, put_marks};
 use crate::showing::show_lines;
 use crate::sizes::Ruler;
+use crate::windows::Edited;
 use crate::workspace::{Workspace, fill_ends, fill_marks};
 use bidi::doubling_keeps_levels;
 use breaks::{doubling_keeps_marks, marks_are_as_many};
@@ -38,7 +39,7 @@ impl Workspace {
     ghost use Rattle.lines.specs.Buffers.{held_lines, AreSound};
     ghost use Rattle.lines.specs.Paragraphs.{rules_in};
     ghost use Rattle.lines.specs.Reordering.{ends_by};
-    ghost use Rattle.lines.specs.Counts.{FillsAll, FillsSome};
+    ghost use Rattle.lines.specs.Counts.{FillsSome};
     ghost use Rattle.lines.specs.HeldLayouts.{HoldsLayout};
     ghost use Rattle.lines.specs.SameKind.{MakesText};
 
@@ -99,12 +100,11 @@ impl Workspace {
         kept: &mut LayoutBuffers,
         counts: &mut Counts,
     ) -> Result<u8, AllocError>
-        requires change { MakesText (rules_in rules.now) change text.now }
+        requires change { MakesText (rules_in rules.now) ruler.width change text.now }
         requires limit { length text.now ≤ PARAGRAPH_LIMIT }
         requires room { HaveRoom (option_map (λ list. list.now) ruler.sizes) }
         ensures layout { IfOk result (λ base. HoldsLayout (with_advances (rules_in rules.now)
             (option_map (λ list. list.now) ruler.entry.sizes)) ruler.entry.width text.now base kept.new) }
-        ensures counts { OnOk result (FillsAll (length text.now) counts.old counts.new) }
         ensures at_most { FillsSome (length text.now) counts.old counts.new }
     {
         // By these theorems, the run edit changes no other level or mark.
@@ -115,36 +115,20 @@ impl Workspace {
             change.laid.text(),
             rules.options.whole_numbers,
         );
+        marks_are_as_many(rules.tables, text, rules.options.whole_numbers);
         let RunChange { laid, run } = change;
-        let filled = counts.take_filled(text.len());
-        let analysis = &mut self.analysis;
-        fill_properties(rules.tables, text, &mut analysis.properties)?;
         put_levels(laid.levels(), run, &mut kept.levels)?;
         put_marks(laid.marks(), run, &mut kept.marks)?;
         fill_ends(&mut self.clusters, rules.options, text, &mut kept.ends)?;
-        let paragraph = Paragraph {
-            text: Text {
-                rules: *rules,
-                characters: text,
-                properties: &analysis.properties[..text.len()],
-                ends: &kept.ends,
-                base: laid.base(),
-            },
-            advances: ruler.sizes,
+        let edited = Edited {
+            rules: *rules,
+            change,
+            text,
             levels: &kept.levels,
             marks: &kept.marks,
+            width: ruler.width,
         };
-        let (clusters, infos) = (&mut self.clusters, &mut self.infos);
-        let (lines, written) = (&mut kept.lines, &mut counts.written);
-        fill_lines(
-            clusters,
-            &paragraph,
-            infos,
-            ruler.width,
-            lines,
-            filled,
-            written,
-        )?;
+        self.fill_edited(&edited, ruler.sizes, &kept.ends, &mut kept.lines, counts)?;
         Ok(laid.base())
     }
 }

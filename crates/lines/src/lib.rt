@@ -55,9 +55,11 @@ mod showing;
 mod shown_parts;
 mod sizes;
 mod spans;
+mod splicing;
 mod visual_line;
 mod whole;
 mod widths;
+mod windows;
 mod workspace;
 
 pub use clusters::{cluster_begin, cluster_end, cluster_ends};

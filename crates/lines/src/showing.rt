@@ -29,7 +29,7 @@ use crate::options::Options;
 use crate::paragraph::{Paragraph, Text};
 use crate::reserve::reserve;
 use reorder::{
-    identity, order_runs, reset_levels, visual_chars, visual_order, visual_places, visual_runs,
+    identity, order_runs, reset_levels, show_places, visual_chars, visual_places, visual_runs,
 };
 use std::alloc::AllocError;
 use ucd::{KnownClasses, Properties};
@@ -306,7 +306,7 @@ pub(crate) fn show_part(
     ensures within { AreWithin (length levels.now) vtol.new }
 {
     let part = &line.characters[..levels.len()];
-    if is_plain(levels, is_flat) {
+    if is_flat {
         show_plain(part, ltov, vtol, chars);
     } else {
         let classes = LineClasses {
@@ -315,9 +315,17 @@ pub(crate) fn show_part(
             levels,
             reorder_clusters: line.rules.options.reorder_clusters,
         };
-        visual_order(&classes, levels, reorders(line.rules.options), vtol, ltov);
+        visual_places(&classes, levels, reorders(line.rules.options), vtol);
         let properties = &line.properties[..levels.len()];
-        visual_chars(line.rules.tables, part, properties, levels, vtol, chars);
+        show_places(
+            line.rules.tables,
+            part,
+            properties,
+            levels,
+            vtol,
+            ltov,
+            chars,
+        );
     }
 }
 

@@ -17,6 +17,7 @@ use crate::options::Options;
 use crate::paragraph::{LentRules, Text};
 use crate::properties::fill_properties;
 use crate::reserve::reserve;
+use crate::windows::WindowBuffers;
 use bidi::Resolver;
 use breaks::{Mark, marks_into};
 use std::alloc::{AllocError, Global};
@@ -29,6 +30,7 @@ pub(crate) struct Workspace {
     pub(crate) analysis: Analysis,
     pub(crate) infos: InfoBuffers,
     pub(crate) clusters: ClusterBuffers,
+    pub(crate) window: WindowBuffers,
     // The lists for paragraphs that are printed and not kept.
     pub(crate) lists: LayoutBuffers,
     // Recycled lists for the next paragraph that is kept.
@@ -43,6 +45,7 @@ impl Drop for Workspace {
             analysis: _,
             infos: _,
             clusters: _,
+            window: _,
             lists: _,
             recycled: _,
             text: _,
@@ -60,6 +63,7 @@ impl Workspace {
             },
             infos: InfoBuffers::new(alloc),
             clusters: ClusterBuffers::new(alloc),
+            window: WindowBuffers::new(alloc),
             lists: LayoutBuffers::new(alloc),
             recycled: LayoutBuffers::new(alloc),
             text: Vec::new(alloc),

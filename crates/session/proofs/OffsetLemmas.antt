@@ -1,13 +1,14 @@
 -- Positions of a text, and numbers of UTF-8 bytes or UTF-16 code units before them.
 use Rattle.std.proofs.Common.{◌≡◌, ℕ, ◌+◌, ◌-◌, ◌<◌, ◌≤◌, nat_le, nat_lt, Bool, true, false, if◌then◌else◌, List, [], ◌∷◌, ◌++◌, length, take, drop, get_or, sum_by, encode_utf8, encode_utf8_all, Option, Some, None, is_none, unwrap_or, inl, inr, zero, suc, add-one, refl, sym, ap, ap₂, ◌∙◌, arith, append_assoc, length-append, cond}
 use Rattle.std.specs.Char.{len_utf8}
+use Rattle.std.specs.Str.{chars, IsUtf8}
 use Rattle.std.specs.List.{slice_get, slice_range}
 use Rattle.std.specs.Option.{option_map}
-use Rattle.std.proofs.lemmas.Bool.{cases_Bool, cond-true, cond-false, le-ltb, lt-ltb, le-leb, lt-leb}
+use Rattle.std.proofs.lemmas.Bool.{cases_Bool, cases_lt, cond-true, cond-false, le-ltb, lt-ltb, le-leb, lt-leb}
 use Rattle.std.proofs.lemmas.List.{get_or_default, length-drop, length-take, length-take-le, take-append-le}
 use Rattle.std.proofs.lemmas.List.Sums.{sum_by-append, sum_by-cons, sum_by-take-drop, sum_by-take-le}
 use Rattle.std.proofs.Math.Seq.{take-add, take-append_seam, take-append-add, take-length}
-use Rattle.std.proofs.lemmas.Str.{length-encode, len_utf8_ascii, len_utf8_bounds}
+use Rattle.std.proofs.lemmas.Str.{encodes-chars, length-encode, len_utf8_ascii, len_utf8_bounds}
 use Rattle.bidi.specs.Brackets.{greatest}
 use Rattle.bidi.proofs.PairLemmas.{greatest_here}
 use Rattle.lines.proofs.FillingLemmas.{greatest_skips}
@@ -240,6 +241,30 @@ length-part kept pos count =
       encoded_length (slice_range text pos (pos + count)),
       ap (length_in Utf8) part,
     )
+
+-- the number of bytes of a text
+pub bytes_of : (bytes : List ℕ) → IsUtf8 bytes → length bytes ≡ length_in Utf8 (chars bytes)
+bytes_of bytes utf8 = ap length (sym (encodes-chars bytes utf8)) ∙ encoded_length (chars bytes)
+
+-- a character has at least as many bytes as UTF-16 code units
+no_more_units : (c : ℕ) → size_in Utf16 c ≤ size_in Utf8 c
+no_more_units c = elim (cases_lt c 0x1_0000) [
+  | inl low ↦ omega (arith, cond-true {A = ℕ} (nat_lt c 0x1_0000) 1 2 (lt-ltb c 0x1_0000 low), (len_utf8_bounds c).0)
+  | inr high ↦
+      let four : len_utf8 c ≡ 4 =
+      cond-false {A = ℕ} (nat_lt c 0x80) 1 (cond (nat_lt c 0x800) 2 (cond (nat_lt c 0x1_0000) 3 4)) (le-ltb c 0x80 (omega (arith, high)))
+      ∙ cond-false {A = ℕ} (nat_lt c 0x800) 2 (cond (nat_lt c 0x1_0000) 3 4) (le-ltb c 0x800 (omega (arith, high)))
+      ∙ cond-false {A = ℕ} (nat_lt c 0x1_0000) 3 4 (le-ltb c 0x1_0000 high) in
+      omega (arith, cond-false {A = ℕ} (nat_lt c 0x1_0000) 1 2 (le-ltb c 0x1_0000 high), four)
+]
+
+no_longer : (text : List ℕ) → length_in Utf16 text ≤ length_in Utf8 text
+no_longer [] = omega arith
+no_longer (c ∷ cs) = omega (arith, sum_by-cons (size_in Utf16) c cs, sum_by-cons (size_in Utf8) c cs, no_more_units c, no_longer cs)
+
+-- if each character of a text has one byte, it has one UTF-16 code unit
+pub one_byte_each : (text : List ℕ) → length text ≡ length_in Utf8 text → length text ≡ length_in Utf16 text
+one_byte_each text bytes = omega (arith, bytes, least_length Utf16 text, no_longer text)
 
 -- if each character of a text has one unit, the number of units is the number of characters
 one_each : (encoding : Encoding) (text : List ℕ) → ((k : ℕ) → k < length text → size_in encoding (get_or text k 0) ≡ 1) → length_in encoding text ≡ length text

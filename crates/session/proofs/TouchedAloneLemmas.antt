@@ -7,12 +7,12 @@ use Rattle.std.proofs.lemmas.List.{length-append, length-map, length-take-le, ta
 use Rattle.std.proofs.lemmas.Option.{get_or_from_slice_get, slice_get_within, IfSome_then}
 use Rattle.bidi.specs.Pieces.{ParagraphsArePieces}
 use Rattle.lines.specs.Engine.{rules_of}
-use Rattle.lines.specs.Layouts.{Layout}
+use Rattle.lines.specs.Layouts.{IsLaidAt, Layout}
 use Rattle.lines.specs.SameKind.{IsEdited}
 use Rattle.lines.specs.declared.engine.Engine.{Engine}
 use Rattle.session.specs.Borders.{IsBackBorder, IsFrontBorder, IsTouchedAlone}
 use Rattle.session.specs.Joined.{BecomesBy}
-use Rattle.session.specs.Kept.{pars_of, text_of, IsFresh}
+use Rattle.session.specs.Kept.{pars_of, rules_for, text_of}
 use Rattle.session.specs.Sessions.{state_of, IsWholeLayout}
 use Rattle.session.specs.Touched.{start_of}
 use Rattle.session.specs.declared.borders.Border.{Border}
@@ -21,7 +21,7 @@ use Rattle.session.specs.declared.joined.Edited.{Edited}
 use Rattle.session.proofs.BorderLemmas.{text_read}
 use Rattle.session.proofs.EditLemmas.{drop_two}
 use Rattle.session.proofs.TouchedLemmas.{start_of-end, start_of-more}
-use Rattle.session.proofs.WidthLemmas.{all_each, each_laid_out}
+use Rattle.session.proofs.WidthLemmas.{all_each, each_laid_at}
 
 -- no character before the first touched paragraph is in the range
 pub front_low : (kept : List Layout) (pos : ℕ) (front : Border) → IsFrontBorder kept pos front → front.chars ≤ pos
@@ -99,10 +99,10 @@ module _ (law : ParagraphsArePieces) (engine : Engine) (width : ℕ) (is_measure
           ∙ ap₂ (λ i m. drop (i + m) l.text) (sym is.at) (sym is.removed);
     }
 
-    fresh : IsFresh (rules_of engine) l
+    fresh : IsLaidAt (rules_for (rules_of engine) l) width l
     fresh =
-        subst (IsFresh (rules_of engine)) (get_or_from_slice_get kept front.index l l found)
-        (all_each (IsFresh (rules_of engine)) kept (each_laid_out law engine width is_measured kept whole) front.index l inside)
+        subst (λ l. IsLaidAt (rules_for (rules_of engine) l) width l) (get_or_from_slice_get kept front.index l l found)
+        (all_each (λ l. IsLaidAt (rules_for (rules_of engine) l) width l) kept (each_laid_at law engine width is_measured kept whole) front.index l inside)
 
-  pub becomes : (edited : Option Edited) → IfSome edited (IsTouchedAlone first front back range n) → BecomesBy (rules_of engine) edited (before ++ (piece ++ after))
+  pub becomes : (edited : Option Edited) → IfSome edited (IsTouchedAlone first front back range n) → BecomesBy (rules_of engine) width edited (before ++ (piece ++ after))
   becomes edited alone = IfSome_then edited alone (λ e is. (fresh e is, edit_is e is))

@@ -9,7 +9,7 @@ use Rattle.bidi.specs.Cuts.{paragraphs}
 use Rattle.bidi.specs.Pieces.{ArePieces, ParagraphsArePieces}
 use Rattle.lines.specs.Engine.{rules_of, filled_of, counted, RisesBy, SameRules, Fills, FillsAtMost, FindsExtents, FindsExtentsAtMost, Rewrites, RewritesAtMost}
 use Rattle.lines.specs.Extents.{LineExtents}
-use Rattle.lines.specs.Layouts.{Layout, Rules, IsParagraph, cut_by, keeps_lines, layout_of, lines_of, with_advances}
+use Rattle.lines.specs.Layouts.{Layout, Rules, IsLaidAt, IsParagraph, cut_by, keeps_lines, layout_of, lines_of, with_advances}
 use Rattle.lines.specs.declared.engine.Engine.{Engine}
 use Rattle.store.specs.Exchanging.{pairwise, total_cost}
 use Rattle.session.specs.Sessions.{IsWholeLayout, SetsWidth, state_of}
@@ -60,6 +60,23 @@ each_laid_out law engine width is_measured kept whole =
     let pars = paragraphs (cut_by rules) (text_of kept) in
     subst (Each (IsFresh rules)) (sym whole.kept)
     (all_laid_out rules width advances pars
+    (all_paragraphs law rules pars (law.pieces (cut_by rules) (text_of kept)) (allowed-within_limit (cut_by rules) advances (text_of kept) whole.allowed)))
+
+-- each paragraph is laid out at the session's width
+all_laid_at : (rules : Rules) (width : ℕ) (advances : Option (List ℕ)) (pars : List (List ℕ)) → Each (IsParagraph rules) pars
+    → Each (λ kept. IsLaidAt (rules_for rules kept) width kept) (layouts_from (with_advances rules None) width advances pars)
+all_laid_at rules width advances [] h = tt
+all_laid_at rules width advances (p ∷ pars) h =
+    (record { paragraph = record { whole = h.0.whole; within = h.0.within }; from_scratch = refl }, all_laid_at rules width (back_advances (length p) advances) pars h.1)
+
+pub each_laid_at : ParagraphsArePieces → (engine : Engine) (width : ℕ) (is_measured : Bool) (kept : List Layout)
+    → IsWholeLayout (state_of engine width is_measured kept) → Each (λ l. IsLaidAt (rules_for (rules_of engine) l) width l) kept
+each_laid_at law engine width is_measured kept whole =
+    let rules = rules_of engine in
+    let advances = advances_in is_measured kept in
+    let pars = paragraphs (cut_by rules) (text_of kept) in
+    subst (Each (λ l. IsLaidAt (rules_for rules l) width l)) (sym whole.kept)
+    (all_laid_at rules width advances pars
     (all_paragraphs law rules pars (law.pieces (cut_by rules) (text_of kept)) (allowed-within_limit (cut_by rules) advances (text_of kept) whole.allowed)))
 
 pub all_read : {A : Type 0} (P : A → Type 0) (xs : List A) (i : ℕ) (x : A) → Each P xs → Some x ≡ slice_get xs i → P x

@@ -1,10 +1,10 @@
 -- A text in three parts: the text before an edit, the inserted text, and the text after the edit.
 use Rattle.std.specs.Prelude.{ℕ, List, ◌++◌, length, replicate, Bool, Option, IfSome}
 use Rattle.std.specs.Str.{chars}
-use Rattle.lines.specs.Layouts.{Rules}
+use Rattle.lines.specs.Layouts.{IsLaidAt, Rules}
 use Rattle.lines.specs.Measures.{given_if}
 use Rattle.lines.specs.SameKind.{IsEdited}
-use Rattle.session.specs.Kept.{IsFresh}
+use Rattle.session.specs.Kept.{rules_for}
 use Rattle.session.specs.declared.joined.Edited.{Edited}
 use Rattle.session.specs.declared.joined.Part.{Part}
 
@@ -17,6 +17,6 @@ abbrev pub joined_advances : Bool → Part → List ℕ → Part → Option (Lis
 joined_advances is_measured front piece back =
     given_if is_measured (front.advances.now ++ (replicate (length (chars piece)) 0 ++ back.advances.now))
 
--- if a paragraph is given, it is laid out, and the edit makes the text of it
-abbrev pub BecomesBy : Rules → Option Edited → List ℕ → Type 0
-BecomesBy rules edited text = IfSome edited (λ e. IsFresh rules e.laid.now × IsEdited e.laid.now.text text e.edit)
+-- if a paragraph is given, it is laid out at this width, and the edit makes the text of it
+abbrev pub BecomesBy : Rules → ℕ → Option Edited → List ℕ → Type 0
+BecomesBy rules width edited text = IfSome edited (λ e. IsLaidAt (rules_for rules e.laid.now) width e.laid.now × IsEdited e.laid.now.text text e.edit)

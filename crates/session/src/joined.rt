@@ -250,7 +250,7 @@ fn lay_out_edited(
     advances: Vec<u32>,
     form: Form,
 ) -> Result<Kept, AllocError>
-    requires edited { BecomesBy (rules_of engine.old) (Some edited) text.items }
+    requires edited { BecomesBy (rules_of engine.old) form.width (Some edited) text.items }
     requires paragraph { IsParagraph (rules_of engine.old) text.items }
     requires width { 0 < form.width }
     requires each { AreForEach (given_if form.is_measured advances.items) text.items }
@@ -279,7 +279,7 @@ fn lay_out_single(
     advances: Vec<u32>,
     form: Form,
 ) -> Result<Kept, AllocError>
-    requires edited { BecomesBy (rules_of engine.old) edited text.items }
+    requires edited { BecomesBy (rules_of engine.old) form.width edited text.items }
     requires paragraph { IsParagraph (rules_of engine.old) text.items }
     requires width { 0 < form.width }
     requires each { AreForEach (given_if form.is_measured advances.items) text.items }
@@ -317,7 +317,7 @@ fn lay_out(
     form: Form,
 ) -> Result<Vec<Kept>, AllocError>
     requires some { 0 < length text.items }
-    requires edited { BecomesBy (rules_of engine.old) edited text.items }
+    requires edited { BecomesBy (rules_of engine.old) form.width edited text.items }
     requires within { is_within_limit (cut_by (rules_of engine.old)) text.items ≡ true }
     requires width { 0 < form.width }
     requires each { AreForEach (given_if form.is_measured advances.items) text.items }
@@ -416,7 +416,8 @@ fn lay_out_parts(
     form: Form,
 ) -> Result<Vec<Kept>, AllocError>
     requires some { 0 < length (joined_text front.now piece.now back.now) }
-    requires edited { BecomesBy (rules_of engine.old) edited (joined_text front.now piece.now back.now) }
+    requires edited { BecomesBy (rules_of engine.old) form.width edited
+        (joined_text front.now piece.now back.now) }
     requires width { 0 < form.width }
     requires front { AreForEach (given_if form.is_measured front.now.advances.now) front.now.text.now }
     requires back { AreForEach (given_if form.is_measured back.now.advances.now) back.now.text.now }
@@ -449,7 +450,8 @@ pub fn lay_out_joined(
     back: &Part<'_>,
     form: Form,
 ) -> Result<Vec<Kept>, EditFault>
-    requires edited { BecomesBy (rules_of engine.old) edited (joined_text front.now piece.now back.now) }
+    requires edited { BecomesBy (rules_of engine.old) form.width edited
+        (joined_text front.now piece.now back.now) }
     requires width { 0 < form.width }
     requires front { AreForEach (given_if form.is_measured front.now.advances.now) front.now.text.now }
     requires back { AreForEach (given_if form.is_measured back.now.advances.now) back.now.text.now }

@@ -6,7 +6,7 @@ ghost use Rattle.session.specs.Kept.{rules_for, IsFresh};
 ghost use Rattle.session.specs.Offsets.{length_in, units_of};
 ghost use Rattle.session.specs.declared.offsets.Encoding.TheVariants.{Utf8, Utf16};
 
-use crate::offsets::lengths;
+use crate::offsets::{lengths, utf16_length};
 use lines::{Engine, Extents, Fill, Laid, ReflowScratch};
 use std::alloc::{AllocError, Global};
 use std::marker::Model;
@@ -65,6 +65,22 @@ impl Kept {
             utf16,
             laid: Box::new(alloc, laid)?,
         })
+    }
+
+    /// Takes a layout whose text has `bytes` bytes in UTF-8, and counts the UTF-16 code units of its text.
+    pub fn of_box(laid: Box<Laid>, bytes: usize) -> Kept
+        requires { bytes ≡ length_in Utf8 laid.value.text }
+        ensures { result ≡ laid.value }
+    {
+        let text = laid.text();
+        let utf16 = utf16_length(text, bytes);
+        Kept {
+            chars: text.len(),
+            lines: laid.line_count(),
+            bytes,
+            utf16,
+            laid,
+        }
     }
 
     /// Moves the layout out of its box.

@@ -160,6 +160,21 @@ pub fn lengths(text: &[char]) -> (usize, usize)
     (bytes, Encoding::Utf16.length(text))
 }
 
+/// Returns the number of UTF-16 code units in a text, given its length in UTF-8 bytes.
+pub fn utf16_length(text: &[char], bytes: usize) -> usize
+    requires { bytes ≡ length_in Utf8 text.now }
+    ensures { result ≡ length_in Utf16 text.now }
+{
+    // Fast paths: in most texts, each character is one UTF-16 code unit, and in ASCII one byte.
+    if bytes == text.len() {
+        return text.len();
+    }
+    if largest(text) < '\u{10000}' {
+        return text.len();
+    }
+    Encoding::Utf16.length(text)
+}
+
 // Returns the number of units in the first `count` characters of a paragraph.
 fn length_to(kept: &Kept, count: usize, encoding: Encoding) -> usize
     requires { count ≤ length kept.now.text }

@@ -9,7 +9,9 @@ ghost use Rattle.lines.specs.Layouts.{cut_by, layout_of, with_advances, IsParagr
 ghost use Rattle.lines.specs.Measures.{given_if};
 ghost use Rattle.session.specs.Edits.{is_within_limit};
 ghost use Rattle.session.specs.Kept.{first_advances, layouts_of, TotalsFit};
+ghost use Rattle.session.specs.Offsets.{length_in};
 ghost use Rattle.session.specs.declared.edits.TheConstants.{TEXT_LIMIT};
+ghost use Rattle.session.specs.declared.offsets.Encoding.TheVariants.{Utf8};
 
 use crate::edits::TEXT_LIMIT;
 use crate::joined::{Form, Part, lay_out_one, lay_out_owned};
@@ -158,16 +160,19 @@ fn lay_out_new(
     lay_out_one(alloc, engine, &part, form)
 }
 
-// Like `lay_out_new`, but moves the characters and the advances into the layout.
+// Like `lay_out_new`, but moves the characters and the advances into the layout. `bytes` is the length of the
+// text in UTF-8.
 fn lay_out_moved(
     alloc: Global,
     engine: &mut Engine,
     text: Vec<char>,
+    bytes: usize,
     advances: Vec<u32>,
     form: Form,
 ) -> Result<Kept, AllocError>
     requires paragraph { IsParagraph (rules_of engine.old) text.items }
     requires width { 0 < form.width }
+    requires bytes { bytes ≡ length_in Utf8 text.items }
     requires zeros { given_if form.is_measured advances.items
         ≡ first_advances form.is_measured (length text.items) }
     ensures ok { IfOk result (λ kept. kept ≡ layout_of (with_advances (rules_of engine.old)
@@ -175,7 +180,11 @@ fn lay_out_moved(
     ensures rules { SameRules engine.old engine.new }
     ensures counts { LaysOutAtMost (length text.items) engine.old engine.new }
 {
-    lay_out_owned(alloc, engine, text, advances, form)
+    if form.is_measured {
+        return lay_out_owned(alloc, engine, text, advances, form);
+    }
+    let laid = engine.lay_out_boxed(alloc, text, form.width)?;
+    Ok(Kept::of_box(laid, bytes))
 }
 
 // Lays out a text that is one paragraph, and appends its layout to a store. If the text is measured, all
@@ -200,7 +209,7 @@ fn append_one<S: ParagraphStore<Kept>>(
     let list = decoded(Vec::new(alloc), text)?;
     let characters = fitted(alloc, list)?;
     let advances = zeros(Vec::new(alloc), form.is_measured, characters.len())?;
-    let kept = lay_out_moved(alloc, engine, characters, advances, form)?;
+    let kept = lay_out_moved(alloc, engine, characters, text.len(), advances, form)?;
     push(store, kept)
 }
 

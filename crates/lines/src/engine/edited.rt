@@ -1,10 +1,10 @@
 //! Lays out paragraphs that an edit has made of laid-out ones.
 ghost use Rattle.std.specs.Prelude.{◌≡◌, ◌^◌, ◌<◌, ◌≤◌, List, None, Some, length, option_map, sum};
-ghost use Rattle.std.specs.Prelude.{IfOk, OnOk};
-ghost use Rattle.lines.specs.Engine.{rules_of, Fills, FillsAtMost, LaysOutAtMost, SameRules};
+ghost use Rattle.std.specs.Prelude.{IfOk};
+ghost use Rattle.lines.specs.Engine.{rules_of, FillsAtMost, LaysOutAtMost, SameRules};
 ghost use Rattle.lines.specs.HeldLayouts.{HoldsLayout};
 ghost use Rattle.lines.specs.Layouts.{layout_of, with_advances};
-ghost use Rattle.lines.specs.Layouts.{HaveRoom, IsLaidOut, IsParagraph};
+ghost use Rattle.lines.specs.Layouts.{HaveRoom, IsLaidAt, IsParagraph};
 ghost use Rattle.lines.specs.SameKind.{IsEdited, IsInRun, MakesText};
 ghost use Rattle.lines.specs.declared.engine.TheConstants.{PARAGRAPH_LIMIT};
 
@@ -22,8 +22,9 @@ impl Engine {
     /// Lays out a paragraph that an edit has made of a laid-out one, with the same result as `lay_out`. If
     /// all inserted and removed characters are of the same kind as a character next to them, copies the
     /// levels and break marks, and analyses nothing. This requires a kind that can be doubled (see
-    /// `bidi::doubling_keeps_levels` and `breaks::doubling_keeps_marks`). The old paragraph must have been
-    /// laid out with this engine's tables and options.
+    /// `bidi::doubling_keeps_levels` and `breaks::doubling_keeps_marks`). In a long paragraph, fills only
+    /// the lines around the edit. The old paragraph must have been laid out with this engine's tables and
+    /// options, and at the same width.
     pub fn lay_out_edited(
         &mut self,
         alloc: Global,
@@ -32,13 +33,13 @@ impl Engine {
         text: Vec<char>,
         width: u32,
     ) -> Result<Laid, AllocError>
-        requires laid { IsLaidOut (with_advances (rules_of self.old) old.now.advances) old.now }
+        requires laid { IsLaidAt (with_advances (rules_of self.old) old.now.advances) width old.now }
         requires edit { IsEdited old.now.text text.items edit }
         requires paragraph { IsParagraph (rules_of self.old) text.items }
         requires width { 0 < width }
         ensures ok { IfOk result (λ laid. laid ≡ layout_of (rules_of self.old) width text.items) }
         ensures run { IfOk result (λ laid. IsInRun (rules_of self.old).tables old.now.text text.items edit
-            → Fills (length text.items) self.old self.new) }
+            → FillsAtMost (length text.items) self.old self.new) }
         ensures at_most { LaysOutAtMost (length text.items) self.old self.new }
 
         // The engine's own rules are those for text that is not measured.
@@ -78,7 +79,7 @@ impl Engine {
         advances: Vec<u32>,
         width: u32,
     ) -> Result<Laid, AllocError>
-        requires laid { IsLaidOut (with_advances (rules_of self.old) old.now.advances) old.now }
+        requires laid { IsLaidAt (with_advances (rules_of self.old) old.now.advances) width old.now }
         requires edit { IsEdited old.now.text text.items edit }
         requires paragraph { IsParagraph (rules_of self.old) text.items }
         requires width { 0 < width }
@@ -87,7 +88,7 @@ impl Engine {
         ensures ok { IfOk result (λ laid. laid
             ≡ layout_of (with_advances (rules_of self.old) (Some advances.items)) width text.items) }
         ensures run { IfOk result (λ laid. IsInRun (rules_of self.old).tables old.now.text text.items edit
-            → Fills (length text.items) self.old self.new) }
+            → FillsAtMost (length text.items) self.old self.new) }
         ensures at_most { LaysOutAtMost (length text.items) self.old self.new }
         ensures rules { SameRules self.old self.new }
     {
@@ -125,13 +126,12 @@ impl Engine {
         width: u32,
         lists: &mut LayoutBuffers,
     ) -> Result<u8, AllocError>
-        requires change { MakesText (rules_of self.old) change text.now }
+        requires change { MakesText (rules_of self.old) width change text.now }
         requires limit { length text.now ≤ PARAGRAPH_LIMIT }
         requires room { HaveRoom (option_map (λ list. list.now) advances) }
         ensures layout { IfOk result (λ base. HoldsLayout (with_advances (rules_of self.old)
             (option_map (λ list. list.now) advances.entry)) width text.now base lists.new) }
         ensures unmeasured { (rules_of self.old).advances ≡ None }
-        ensures counts { OnOk result (Fills (length text.now) self.old self.new) }
         ensures at_most { FillsAtMost (length text.now) self.old self.new }
         ensures rules { SameRules self.old self.new }
     {

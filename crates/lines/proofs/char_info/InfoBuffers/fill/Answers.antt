@@ -1,6 +1,7 @@
-use Rattle.std.proofs.Common.{length, take, ap, ◌∙◌, arith}
-use Rattle.std.proofs.lemmas.List.{with_items_is}
+use Rattle.std.proofs.Common.{◌≡◌, length, take, ap, ◌∙◌}
+use Rattle.std.proofs.lemmas.Result.{on_ok_weaker}
 use Rattle.lines.specs.Bare.{with_ends}
+use Rattle.lines.specs.BareInfos.{bare_infos}
 use Rattle.lines.specs.Clusters.{cluster_ends}
 use Rattle.lines.specs.CharInfos.{infos, infos_of}
 use Rattle.lines.specs.Tabs.{tab_width_in}
@@ -10,7 +11,11 @@ use Rattle.lines.proofs.char_info.InfoBuffers.fill.Goals as goal
 pub returns-clause-infos : goal.returns-clause-infos
 unfolding infos_of
 returns-clause-infos c =
-    ap (λ ps. with_ends ps (cluster_ends c.args.text.now.characters.now)) (ap (take (length c.args.text.now.characters.now)) (with_items_is c.grow.new.list c.put_front.new.infos (omega arith)) ∙ c.put_front.ensures)
-    ∙ with_infos c.args.text.now.rules.tables.now c.tab_width-tab_width.result c.args.text.now.characters.now c.args.marks.now (cluster_ends c.args.text.now.characters.now)
-    ∙ ap (λ n. infos c.args.text.now.rules.tables.now n c.args.text.now.characters.now c.args.marks.now (cluster_ends c.args.text.now.characters.now)) c.tab_width-tab_width.ensures
-    ∙ ap (λ ms. infos c.args.text.now.rules.tables.now (tab_width_in c.args.text.now.rules.tables.now c.args.text.now.rules.options) c.args.text.now.characters.now ms (cluster_ends c.args.text.now.characters.now)) c.requires.marks
+    let text = c.args.text.now in
+    let tables = text.rules.tables.now in
+    let n = tab_width_in tables text.rules.options in
+    let chars = text.characters.now in
+    let ends = cluster_ends chars in
+    on_ok_weaker {P = take (length chars) c.fill_with.new.self.infos.items ≡ bare_infos tables n chars c.args.marks.now} c.fill_with.result
+    (λ e. ap (λ ps. with_ends ps ends) e ∙ with_infos tables n chars c.args.marks.now ends ∙ ap (λ ms. infos tables n chars ms ends) c.requires.marks)
+    c.fill_with.ensures.infos

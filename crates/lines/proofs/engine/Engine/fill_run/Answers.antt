@@ -7,7 +7,7 @@ use Rattle.lines.specs.SameKind.{MakesText}
 use Rattle.lines.proofs.engine.Engine.fill_run.Goals as goal
 
 pub lay_out_run-requires-clause-change : goal.lay_out_run-requires-clause-change
-lay_out_run-requires-clause-change c = subst (λ (rules : Rules). MakesText rules c.args.change c.args.text.now) (sym (ap rules_of c.self.view_is)) c.requires.change
+lay_out_run-requires-clause-change c = subst (λ (rules : Rules). MakesText rules c.args.width c.args.change c.args.text.now) (sym (ap rules_of c.self.view_is)) c.requires.change
 
 pub returns-clause-layout : goal.returns-clause-layout
 returns-clause-layout c =

@@ -1,25 +1,17 @@
-use Rattle.std.proofs.Common.{◌≡◌, ◌∙◌, ◌++◌, List, ℕ, ap, length, refl, subst, sym, arith}
+use Rattle.std.proofs.Common.{◌≡◌, ◌∙◌, ◌++◌, ap, length, refl, subst, sym, arith}
 use Rattle.std.proofs.lemmas.Result.{on_ok_weaker}
 use Rattle.lines.specs.Bare.{with_ends}
 use Rattle.lines.specs.CharInfos.{sized}
 use Rattle.lines.specs.Clusters.{cluster_ends}
-use Rattle.lines.specs.Extents.{in_pairs, shown_from, unpacked, LineExtents}
+use Rattle.lines.specs.Extents.{in_pairs, shown_from}
 use Rattle.lines.specs.Kept.{AreStarts}
 use Rattle.lines.specs.ShownParts.{margin_of}
-use Rattle.lines.specs.declared.fill.Shown.{Shown}
 use Rattle.lines.proofs.BareLemmas.{same_shown, with_alike}
 use Rattle.lines.proofs.ClusterLemmas.{length-cluster_ends}
-use Rattle.lines.proofs.ExtentLemmas.{unpacked_is}
+use Rattle.lines.proofs.ExtentLemmas.{parts_in, starts_in}
 use Rattle.lines.proofs.SizedLemmas.{sized_alike}
 use Rattle.lines.proofs.ShowLemmas.{length-shown_from, taken_shown}
 use Rattle.lines.proofs.extents.Extents.find_by.Goals as goal
-
--- a list that consists of starts and shown parts is unpacked to these starts and shown parts
-starts_in : (items starts : List ℕ) (parts : List Shown) → length parts ≡ length starts → items ≡ starts ++ in_pairs parts → (unpacked items).starts ≡ starts
-starts_in items starts parts same is = ap (λ (e : LineExtents). e.starts) (ap unpacked is ∙ unpacked_is starts parts same)
-
-parts_in : (items starts : List ℕ) (parts : List Shown) → length parts ≡ length starts → items ≡ starts ++ in_pairs parts → (unpacked items).shown ≡ parts
-parts_in items starts parts same is = ap (λ (e : LineExtents). e.shown) (ap unpacked is ∙ unpacked_is starts parts same)
 
 pub returns-clause-starts : goal.returns-clause-starts
 returns-clause-starts g c =
