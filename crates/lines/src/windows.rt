@@ -58,13 +58,27 @@ pub(crate) struct WindowBuffers {
     lines: LineBuffers,
 }
 
-impl WindowBuffers {
-    /// Creates empty buffers. Allocates nothing.
-    pub(crate) fn new(alloc: Global) -> WindowBuffers {
-        WindowBuffers {
-            starts: Vec::new(alloc),
-            lines: LineBuffers::new(alloc),
-        }
+// Allocates empty buffers.
+fn allocated(alloc: Global) -> Result<Box<WindowBuffers>, AllocError> {
+    let buffers = WindowBuffers {
+        starts: Vec::new(alloc),
+        lines: LineBuffers::new(alloc),
+    };
+    Ok(Box::new(alloc, buffers)?)
+}
+
+// Returns the buffers for a window, and allocates them first if there are none yet. Most workspaces never
+// need them.
+fn ready_window(
+    buffers: &mut Option<Box<WindowBuffers>>,
+    alloc: Global,
+) -> Result<&mut WindowBuffers, AllocError> {
+    if buffers.is_none() {
+        *buffers = Some(allocated(alloc)?);
+    }
+    match buffers {
+        Some(buffers) => Ok(buffers),
+        None => unreachable!(),
     }
 }
 
@@ -283,12 +297,12 @@ impl Workspace {
         let text = &edited.text[window.start..window.end];
         fill_properties(edited.rules.tables, text, &mut self.analysis.properties)?;
         let properties = &self.analysis.properties;
-        let starts = &mut self.window.starts;
+        let buffers = ready_window(&mut self.window, *properties.allocator())?;
+        let starts = &mut buffers.starts;
         let Some(meeting) = fill_window(edited, window, properties, &mut self.infos, starts)? else {
             return Ok(false);
         };
         let infos = &self.infos.infos;
-        let buffers = &mut self.window;
         show_window(edited, window, meeting, infos, properties, buffers, counts)?;
         let gap = Gap {
             line: window.line,
@@ -296,7 +310,7 @@ impl Workspace {
             end_line: meeting.old_line,
             end: meeting.old_start,
         };
-        lines.put_spliced(edited.change.laid.lines(), gap, &self.window.lines)?;
+        lines.put_spliced(edited.change.laid.lines(), gap, &buffers.lines)?;
         Ok(true)
     }
 }

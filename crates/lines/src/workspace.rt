@@ -30,7 +30,8 @@ pub(crate) struct Workspace {
     pub(crate) analysis: Analysis,
     pub(crate) infos: InfoBuffers,
     pub(crate) clusters: ClusterBuffers,
-    pub(crate) window: WindowBuffers,
+    // The buffers for a window, once a long paragraph has been edited.
+    pub(crate) window: Option<Box<WindowBuffers>>,
     // The lists for paragraphs that are printed and not kept.
     pub(crate) lists: LayoutBuffers,
     // Recycled lists for the next paragraph that is kept.
@@ -63,7 +64,7 @@ impl Workspace {
             },
             infos: InfoBuffers::new(alloc),
             clusters: ClusterBuffers::new(alloc),
-            window: WindowBuffers::new(alloc),
+            window: None,
             lists: LayoutBuffers::new(alloc),
             recycled: LayoutBuffers::new(alloc),
             text: Vec::new(alloc),
