@@ -33,6 +33,7 @@ mod RefillingEnds
 mod RefillingLemmas
 mod RefillingWidths
 pub mod ReorderingLemmas
+pub mod SharedLemmas
 pub mod ShowLemmas
 mod ShownColumnLemmas
 pub mod ShownPartLemmas

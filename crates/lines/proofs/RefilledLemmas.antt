@@ -1,11 +1,11 @@
 -- If the window of a run edit meets the old lines, the lines of the new paragraph are the old ones before the window, those
 -- of the window, and the old ones after it.
 use Rattle.std.proofs.Common.{◌≡◌, ◌∙◌, ℕ, zero, suc, ◌+◌, ◌-◌, ◌<◌, ◌≤◌, Bool, false, true, List, [], ◌∷◌, ◌++◌, length, map, take, drop, get_or, None, Option, Some, if◌then◌else◌, inl, inr, refl, sym, ap, ap₂, subst, arith}
-use Rattle.std.specs.Prelude.{slice_get, slice_index, slice_range}
+use Rattle.std.specs.Prelude.{option_map, slice_get, slice_index, slice_range}
 use Rattle.std.proofs.lemmas.Bool.{cases_eq, cases_lt}
 use Rattle.std.proofs.lemmas.List.{append-nil, drop_all, drop-take, get_or-drop, get_or-take, length-drop, length-map, length-take-le, take-map, take-take, take_all}
 use Rattle.std.proofs.lemmas.List.Elements.{All-cons, All-nil}
-use Rattle.std.proofs.lemmas.Option.{get_or_from_slice_get, none-some, same_Some, slice_get_within}
+use Rattle.std.proofs.lemmas.Option.{get_or_from_slice_get, none-some, same_Some, slice_get-map, slice_get_cases, slice_get_within}
 use Rattle.std.specs.List.{All}
 use Rattle.ucd.specs.declared.tables.Tables.{Tables}
 use Rattle.breaks.specs.Marks.{marks_of}
@@ -15,7 +15,8 @@ use Rattle.lines.specs.Bare.{bare, AreAlike}
 use Rattle.lines.specs.CharInfos.{infos_of}
 use Rattle.lines.specs.Filling.{is_break, line_starts_of, may_end, nothing, place_at}
 use Rattle.lines.specs.Kept.{AreStarts}
-use Rattle.lines.specs.Layouts.{AreWithin, layout_of, lines_of, start_of, with_advances, Layout, Rules}
+use Rattle.lines.specs.Layouts.{AreWithin, layout_of, lines_of, start_of, visuals, with_advances, Layout, Rules}
+use Rattle.lines.specs.Matching.{ShareEnds}
 use Rattle.lines.specs.Refilling.{StaysFrom}
 use Rattle.lines.specs.Reordering.{ends_by}
 use Rattle.lines.specs.ShownParts.{margin_of}
@@ -26,7 +27,7 @@ use Rattle.lines.specs.Paragraphs.{rules_in}
 use Rattle.lines.specs.SameKind.{levels_with, marks_with}
 use Rattle.lines.specs.Spliced.{spliced_lines}
 use Rattle.lines.specs.Tabs.{tab_width_in}
-use Rattle.lines.specs.Windows.{old_starts, window_infos, window_lines, IsFilled, IsFirstLine, IsRefillable, IsWindow, MeetsEnd, MeetsLine}
+use Rattle.lines.specs.Windows.{old_starts, window_infos, window_lines, IsFilled, IsFirstLine, IsRefillable, IsShared, IsWindow, MeetsEnd, MeetsLine}
 use Rattle.lines.specs.declared.char_info.CharInfo.{CharInfo}
 use Rattle.lines.specs.declared.options.Options.{Options}
 use Rattle.lines.specs.declared.same_kind.RunEdit.{RunEdit}
@@ -39,6 +40,7 @@ use Rattle.lines.proofs.BeginningLemmas.{starts_from}
 use Rattle.lines.proofs.ClusterLemmas.{length-cluster_ends}
 use Rattle.lines.proofs.EditedLemmas.{agree_after, agree_before, mark_at}
 use Rattle.lines.proofs.RefillingLemmas.{starts_splice}
+use Rattle.lines.proofs.SharedLemmas.{all_shared, fronts_shared, AreSpliced}
 use Rattle.lines.proofs.SkippedLemmas.{length-infos}
 use Rattle.lines.proofs.SplicingLemmas.{around, drop_lines, dropped, from_is, lines_move, lines_splice, lines_stay, rise_after, rise_low, take_lines, to_append}
 use Rattle.lines.proofs.VisualLemmas.{levels_most, starts_rise, Rise as Below}
@@ -540,4 +542,82 @@ module _ (e : Edited) (is : IsRefillable e) where
             | inr at_end ↦
                 let none : drop meet.old_line laid.lines ≡ [] = drop_all meet.old_line laid.lines (omega (arith, at_end.old_line, length-map laid.lines start_of)) in
                 subst (All (λ (line : Line). meet.old_start ≤ line.start)) (sym none) (All-nil (λ (line : Line). meet.old_start ≤ line.start))
+          ]
+
+      -- ---- the lines at both ends
+
+      abbrev window_ls : List Line
+      window_ls = window_lines e w infos ws meet
+
+      some_window : 0 < meet.lines
+      some_window =
+          elim f.meets [
+            | inl at_line ↦ some_lines at_line
+            | inr at_end ↦
+                let found_0 : slice_get ws 0 ≡ Some 0 = ap (λ (ss : List ℕ). slice_get ss 0) f.starts_are ∙ some_start options.nobreak e.width infos_in (omega (arith, order, infos_in_len)) in
+                omega (arith, at_end.all, slice_get_within ws 0 0 found_0)
+          ]
+
+      first_line_is : (line : Line) × (slice_get (map (moved 0 w.start) window_ls) 0 ≡ Some line) × (line.start ≡ w.start)
+      first_line_is =
+          let found_0 : slice_get ws 0 ≡ Some 0 = ap (λ (ss : List ℕ). slice_get ss 0) f.starts_are ∙ some_start options.nobreak e.width infos_in (omega (arith, order, infos_in_len)) in
+          let begins : take meet.lines ws ≡ 0 ∷ take (meet.lines - 1) (drop 1 ws) = from_0 ws meet.lines found_0 some_window in
+          let starts : map start_of window_ls ≡ take meet.lines ws =
+          starts_from tables options margin laid.base (slice_range e.text.now w.start (w.start + meet.len)) (slice_range e.levels.now w.start (w.start + meet.len)) (take meet.len infos) (take meet.lines ws) in
+          let first_start : slice_get (map start_of window_ls) 0 ≡ Some 0 = ap (λ (ss : List ℕ). slice_get ss 0) (starts ∙ begins) in
+          elim (slice_get_cases window_ls 0).1 [
+            | inl found ↦
+                let line : Line = found.0 in
+                let zeroth : line.start ≡ 0 = same_Some line.start 0 (sym (slice_get-map start_of window_ls 0 ∙ ap (option_map start_of) found.2) ∙ first_start) in
+                (moved 0 w.start line, slice_get-map (moved 0 w.start) window_ls 0 ∙ ap (option_map (moved 0 w.start)) found.2, omega (arith, zeroth))
+            | inr past ↦ absurd (omega (arith, past.0, slice_get_within (map start_of window_ls) 0 0 first_start, length-map window_ls start_of))
+          ]
+
+      pub old_line_within : meet.old_line ≤ length laid.lines
+      old_line_within =
+          let old_size = length-map laid.lines start_of in
+          elim f.meets [
+            | inl at_line ↦ omega (arith, old_size, slice_get_within (old_starts e) meet.old_line meet.old_start at_line.old_line)
+            | inr at_end ↦ omega (arith, old_size, at_end.old_line)
+          ]
+
+      abbrev new_layout : Layout
+      new_layout = layout_of (with_advances rules None) e.width e.text.now
+
+      spliced_is : AreSpliced laid new_layout w.line w.start meet.old_line meet.old_start v (map (moved 0 w.start) window_ls)
+      spliced_is = record {
+        lines = sym meets_lines;
+        line = omega (arith, slice_get_within (old_starts e) w.line w.start win.line, length-map laid.lines start_of);
+        starts = get_or_from_slice_get (old_starts e) w.line w.start 0 win.line;
+        first = first_line_is;
+        base = is.edited.base;
+        tab_width = ap (λ (l : Layout). l.tab_width) from_scratch;
+        advances = (is.unmeasured, refl);
+        text = sym (take-take w.start n laid.text start_low) ∙ ap (take w.start) before.text ∙ take-take w.start n e.text.now start_low;
+        before = before_gap;
+      }
+
+      pub shares : IsShared e None (record { front = w.line; back = length laid.lines - meet.old_line })
+      shares =
+          elim f.meets [
+            | inl at_line ↦
+                let old_size = length-map laid.lines start_of in
+                all_shared laid new_layout w.line w.start meet.old_line meet.old_start v (map (moved 0 w.start) window_ls) spliced_is (record {
+                  b_some =
+                      elim (cases_lt 0 meet.old_line) [
+                        | inl some ↦ some
+                        | inr none ↦
+                            let zeroth : meet.old_line ≡ 0 = omega (arith, none) in
+                            let start : meet.old_start ≡ 0 = same_Some meet.old_start 0 (sym at_line.old_line ∙ ap (slice_get (old_starts e)) zeroth ∙ first_old) in
+                            absurd (omega (arith, start, at_line.after_run, at_line.same))
+                      ];
+                  within = (omega (arith, old_size, slice_get_within (old_starts e) meet.old_line meet.old_start at_line.old_line), (after at_line).within.0);
+                  rest = (after at_line).text;
+                  new_size = sym new_len;
+                  after = after_gap;
+                })
+            | inr at_end ↦
+                let none : 0 ≡ length laid.lines - meet.old_line = omega (arith, at_end.old_line, length-map laid.lines start_of) in
+                subst (λ n. ShareEnds (visuals laid) (visuals new_layout) w.line n) none
+                (fronts_shared laid new_layout w.line w.start meet.old_line meet.old_start v (map (moved 0 w.start) window_ls) spliced_is)
           ]

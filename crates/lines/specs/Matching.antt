@@ -18,6 +18,15 @@ pub record MatchAtEnd {A : Type 0} (xs ys : List A) (n : ℕ) : Type 0 where
   pub same : drop (length xs - n) xs ≡ drop (length ys - n) ys
   pub most : n < length xs → n < length ys → slice_get xs (length xs - n - 1) ≢ slice_get ys (length ys - n - 1)
 
+-- The first `front` and the last `back` items of two lists are the same.
+pub record ShareEnds {A : Type 0} (xs ys : List A) (front back : ℕ) : Type 0 where
+  pub front_in_first : front ≤ length xs
+  pub front_in_second : front ≤ length ys
+  pub same_front : take front xs ≡ take front ys
+  pub back_in_first : back ≤ length xs
+  pub back_in_second : back ≤ length ys
+  pub same_back : drop (length xs - back) xs ≡ drop (length ys - back) ys
+
 -- two lines agree in every field that is not a list, and either both or neither are measured
 pub record HaveSameForm (a b : Visual) : Type 0 where
   pub is_first : a.is_first ≡ b.is_first

@@ -1,6 +1,6 @@
 -- The window of a paragraph in which lines are filled again after a run edit, and where its lines meet the old ones. No
 -- contract of an exported function uses these definitions.
-use Rattle.std.specs.Prelude.{◌≡◌, ◌⊎◌, ℕ, ◌+◌, ◌-◌, ◌<◌, ◌≤◌, true, false, List, length, map, slice_get, slice_index, slice_index_or, slice_range, take, None, Some}
+use Rattle.std.specs.Prelude.{◌≡◌, ◌⊎◌, ℕ, ◌+◌, ◌-◌, ◌<◌, ◌≤◌, true, false, List, length, map, slice_get, slice_index, slice_index_or, slice_range, take, None, Option, Some}
 use Rattle.bidi.specs.Levels.{levels_of}
 use Rattle.breaks.specs.Marks.{marks_of}
 use Rattle.breaks.specs.declared.mark.Mark.{Mark}
@@ -10,13 +10,15 @@ use Rattle.lines.specs.CharInfos.{infos_of}
 use Rattle.lines.specs.Clusters.{is_split_point}
 use Rattle.lines.specs.Filling.{is_break, line_starts_of}
 use Rattle.lines.specs.Kept.{AreStarts}
-use Rattle.lines.specs.Layouts.{base_of, layout_of, start_of, with_advances}
+use Rattle.lines.specs.Layouts.{base_of, layout_of, start_of, visuals, with_advances}
+use Rattle.lines.specs.Matching.{ShareEnds}
 use Rattle.lines.specs.Paragraphs.{rules_in}
 use Rattle.lines.specs.SameKind.{levels_with, marks_with, IsRunEdit}
 use Rattle.lines.specs.ShownParts.{margin_of}
 use Rattle.lines.specs.Visual.{Line, lines_from}
 use Rattle.lines.specs.declared.char_info.CharInfo.{CharInfo}
 use Rattle.lines.specs.declared.engine.TheConstants.{PARAGRAPH_LIMIT}
+use Rattle.lines.specs.declared.matching.SharedLines.{SharedLines}
 use Rattle.lines.specs.declared.windows.Edited.{Edited}
 use Rattle.lines.specs.declared.windows.Meeting.{Meeting}
 use Rattle.lines.specs.declared.windows.Window.{Window}
@@ -52,6 +54,11 @@ pub record IsRefillable (e : Edited) : Type 0 where
   pub edited : IsEditedRun e
   pub unmeasured : e.change.laid.now.advances ≡ None
   pub by_characters : e.rules.options.reorder_clusters ≡ false
+
+-- whether the visual lines at both ends are those of the old paragraph
+abbrev pub IsShared : Edited → Option (List ℕ) → SharedLines → Type 0
+IsShared e advances shared =
+    ShareEnds (visuals e.change.laid.now) (visuals (layout_of (with_advances (rules_in e.rules) advances) e.width e.text.now)) shared.front shared.back
 
 -- where the old lines start
 abbrev pub old_starts : Edited → List ℕ

@@ -17,6 +17,7 @@ use crate::clusters::ClusterBuffers;
 use crate::counts::{Count, Counted, Counts};
 use crate::fill::Shown;
 use crate::laid::Laid;
+use crate::matching::SharedLines;
 use crate::one_line::one_line;
 use crate::paragraph::{LentRules, Paragraph, Text};
 use crate::properties::fill_properties;
@@ -35,7 +36,9 @@ impl Workspace {
     ghost use Rattle.std.specs.Prelude.{option_map};
     ghost use Rattle.bidi.specs.Levels.{levels_of};
     ghost use Rattle.breaks.specs.Marks.{marks_of};
-    ghost use Rattle.lines.specs.Layouts.{AreWithin, HaveRoom, base_of, lines_of, with_advances};
+    ghost use Rattle.lines.specs.Layouts.{AreWithin, HaveRoom, base_of, layout_of, lines_of, visuals};
+    ghost use Rattle.lines.specs.Layouts.{with_advances};
+    ghost use Rattle.lines.specs.Matching.{ShareEnds};
     ghost use Rattle.lines.specs.Buffers.{held_lines, AreSound};
     ghost use Rattle.lines.specs.Paragraphs.{rules_in};
     ghost use Rattle.lines.specs.Reordering.{ends_by};
@@ -89,8 +92,8 @@ impl Workspace {
     }
 
     /// Lays out a paragraph that a run edit has made of a laid-out one. The levels and marks are those of the
-    /// old paragraph, with those of the new run. Returns the base level, and replaces the contents of `kept`
-    /// with the rest of the layout.
+    /// old paragraph, with those of the new run. Returns the base level and which lines are known to be the
+    /// old ones, and replaces the contents of `kept` with the rest of the layout.
     pub(crate) fn lay_out_run(
         &mut self,
         rules: &LentRules<'_>,
@@ -99,12 +102,16 @@ impl Workspace {
         ruler: Ruler<Option<&[u32]>>,
         kept: &mut LayoutBuffers,
         counts: &mut Counts,
-    ) -> Result<u8, AllocError>
+    ) -> Result<(u8, SharedLines), AllocError>
         requires change { MakesText (rules_in rules.now) ruler.width change text.now }
         requires limit { length text.now ≤ PARAGRAPH_LIMIT }
         requires room { HaveRoom (option_map (λ list. list.now) ruler.sizes) }
-        ensures layout { IfOk result (λ base. HoldsLayout (with_advances (rules_in rules.now)
-            (option_map (λ list. list.now) ruler.entry.sizes)) ruler.entry.width text.now base kept.new) }
+        ensures layout { IfOk result (λ done. HoldsLayout (with_advances (rules_in rules.now)
+            (option_map (λ list. list.now) ruler.entry.sizes)) ruler.entry.width text.now done.0 kept.new) }
+        ensures shared { IfOk result (λ done. ShareEnds (visuals change.entry.laid.now)
+            (visuals (layout_of (with_advances (rules_in rules.now)
+            (option_map (λ list. list.now) ruler.entry.sizes)) ruler.entry.width text.now))
+            done.1.front done.1.back) }
         ensures at_most { FillsSome (length text.now) counts.old counts.new }
     {
         // By these theorems, the run edit changes no other level or mark.
@@ -128,8 +135,9 @@ impl Workspace {
             marks: &kept.marks,
             width: ruler.width,
         };
-        self.fill_edited(&edited, ruler.sizes, &kept.ends, &mut kept.lines, counts)?;
-        Ok(laid.base())
+        let lines = &mut kept.lines;
+        let shared = self.fill_edited(&edited, ruler.sizes, &kept.ends, lines, counts)?;
+        Ok((laid.base(), shared))
     }
 }
 

@@ -73,6 +73,7 @@ pub use laws::{
     lines_are_few, lines_are_ordered, lines_are_spliced, lines_have_all_characters,
     paragraphs_print_their_lines, runs_adjoin, runs_have_all_columns, tabs_end_at_stops,
 };
+pub use matching::SharedLines;
 pub use options::Options;
 pub use printing::bytes::{WriteFault, write_chars};
 pub use printing::print::{Print, PrintFault};

@@ -2,19 +2,32 @@
 ghost use Rattle.std.specs.Prelude.{◌≡◌, ◌<◌, ℕ, true, length, slice_get};
 ghost use Rattle.lines.specs.Extents.{extents_of};
 ghost use Rattle.lines.specs.Layouts.{layout_of, visuals, IsLaidOut, Rules};
-ghost use Rattle.lines.specs.Matching.{HaveSamePlace, MatchAtEnd, MatchAtStart};
+ghost use Rattle.lines.specs.Matching.{HaveSamePlace, MatchAtEnd, MatchAtStart, ShareEnds};
 
 use crate::extents::{Extents, end_of};
 use crate::laid::Laid;
 
+/// How many lines at the start and at the end of two layouts are known to be the same.
+#[derive(Clone, Copy, Debug, PartialEq, Eq)]
+pub struct SharedLines {
+    pub front: usize,
+    pub back: usize,
+}
+
+impl SharedLines {
+    /// No lines are known to be the same.
+    pub const NONE: SharedLines = SharedLines { front: 0, back: 0 };
+}
+
 impl Laid {
     /// Returns how many lines this layout and another one share at the start, compared by
-    /// `VisualLine::is_same`.
-    pub fn matching_at_start(&self, other: &Laid) -> usize
+    /// `VisualLine::is_same`. Does not compare the lines in `shared`.
+    pub fn matching_at_start(&self, other: &Laid, shared: SharedLines) -> usize
+        requires { ShareEnds (visuals self.now) (visuals other.now) shared.front shared.back }
         ensures { MatchAtStart (visuals self.now) (visuals other.now) result }
     {
         let most = self.line_count().min(other.line_count());
-        for k in 0..most {
+        for k in shared.front..most {
             if !self.is_same_line(k, other, k) {
                 return k;
             }
@@ -23,13 +36,14 @@ impl Laid {
     }
 
     /// Returns how many lines this layout and another one share at the end, compared by
-    /// `VisualLine::is_same`.
-    pub fn matching_at_end(&self, other: &Laid) -> usize
+    /// `VisualLine::is_same`. Does not compare the lines in `shared`.
+    pub fn matching_at_end(&self, other: &Laid, shared: SharedLines) -> usize
+        requires { ShareEnds (visuals self.now) (visuals other.now) shared.front shared.back }
         ensures { MatchAtEnd (visuals self.now) (visuals other.now) result }
     {
         let (len, other_len) = (self.line_count(), other.line_count());
         let most = len.min(other_len);
-        for k in 0..most {
+        for k in shared.back..most {
             if !self.is_same_line(len - k - 1, other, other_len - k - 1) {
                 return k;
             }

@@ -1,6 +1,6 @@
 //! Fills only a window of a paragraph again after a run edit. The lines before and after the window stay the
 //! same.
-ghost use Rattle.std.specs.Prelude.{◌≡◌, ◌+◌, ◌-◌, ◌<◌, ◌≤◌, true, false, length, map, slice_index};
+ghost use Rattle.std.specs.Prelude.{◌≡◌, ◌+◌, ◌-◌, ◌<◌, ◌≤◌, true, length, map, slice_index, None};
 ghost use Rattle.std.specs.Prelude.{option_map, slice_range, take, IfOk, IfSome, OnOk};
 ghost use Rattle.ucd.specs.Properties.{properties_of};
 ghost use Rattle.lines.specs.Buffers.{held_lines, AreSound};
@@ -9,7 +9,7 @@ ghost use Rattle.lines.specs.Layouts.{lines_of, with_advances, AreWithin, HaveRo
 ghost use Rattle.lines.specs.Paragraphs.{rules_in};
 ghost use Rattle.lines.specs.Reordering.{ends_by};
 ghost use Rattle.lines.specs.Windows.{window_lines, IsBreakIn, IsEditedRun, IsFilled, IsFirstLine, IsWindow};
-ghost use Rattle.lines.specs.Windows.{IsRefillable, Meets, MeetsLine};
+ghost use Rattle.lines.specs.Windows.{IsRefillable, IsShared, Meets, MeetsLine};
 
 use crate::buffers::LineBuffers;
 use crate::char_info::{CharInfo, InfoBuffers};
@@ -17,6 +17,7 @@ use crate::clusters::is_split_point;
 use crate::counts::Counts;
 use crate::filling::line_starts_by_breaks;
 use crate::layout::fill_lines;
+use crate::matching::SharedLines;
 use crate::paragraph::{LentRules, Paragraph, Text};
 use crate::properties::fill_properties;
 use crate::same_kind::RunChange;
@@ -218,7 +219,7 @@ fn meeting_of(edited: &Edited<'_>, from: usize, len: usize, starts: &[u32]) -> O
 impl Workspace {
     /// Replaces the contents of `lines` with the lines of a paragraph after a run edit. In a long paragraph,
     /// fills only a window around the run, and copies the other lines. `ends` are the cluster ends if lines
-    /// are ordered by clusters.
+    /// are ordered by clusters. Returns which lines were copied.
     pub(crate) fn fill_edited(
         &mut self,
         edited: &Edited<'_>,
@@ -226,13 +227,15 @@ impl Workspace {
         ends: &[bool],
         lines: &mut LineBuffers,
         counts: &mut Counts,
-    ) -> Result<(), AllocError>
+    ) -> Result<SharedLines, AllocError>
         requires edited { IsEditedRun edited.now }
         requires room { HaveRoom (option_map (λ list. list.now) advances) }
         requires ends { ends.now ≡ ends_by edited.now.rules.options edited.now.text.now }
         ensures lines { OnOk result (held_lines lines.new
             ≡ lines_of (with_advances (rules_in edited.now.rules)
             (option_map (λ list. list.now) advances.entry)) edited.now.width edited.now.text.now) }
+        ensures shared { IfOk result (λ shared. IsShared edited.now
+            (option_map (λ list. list.now) advances.entry) shared) }
         ensures sound { OnOk result (AreSound lines.new) }
         ensures within { OnOk result (AreWithin (length edited.now.text.now) (held_lines lines.new)) }
         ensures lines_len { OnOk result
@@ -241,8 +244,8 @@ impl Workspace {
     {
         let (laid, rules) = (edited.change.laid, edited.rules);
         if advances.is_none() && laid.advances().is_none() && !rules.options.reorder_clusters {
-            if self.refill(edited, lines, counts)? {
-                return Ok(());
+            if let Some(shared) = self.refill(edited, lines, counts)? {
+                return Ok(shared);
             }
         }
         let filled = counts.take_filled(edited.text.len());
@@ -270,29 +273,32 @@ impl Workspace {
             lines,
             filled,
             written,
-        )
+        )?;
+        Ok(SharedLines::NONE)
     }
 
     /// Replaces the contents of `lines` with the lines of a paragraph after a run edit. Fills only a window
-    /// around the run, and copies the other lines. Returns `false` if the lines of the window depend on
-    /// clusters or do not meet the old lines. The contents of `lines` are then unspecified.
+    /// around the run, and copies the other lines. Returns which lines were copied, or `None` if the lines of
+    /// the window depend on clusters or do not meet the old lines. The contents of `lines` are then
+    /// unspecified.
     pub(crate) fn refill(
         &mut self,
         edited: &Edited<'_>,
         lines: &mut LineBuffers,
         counts: &mut Counts,
-    ) -> Result<bool, AllocError>
+    ) -> Result<Option<SharedLines>, AllocError>
         requires { IsRefillable edited.now }
-        ensures lines { IfOk result (λ done. done ≡ true → held_lines lines.new
-            ≡ lines_of (rules_in edited.now.rules) edited.now.width edited.now.text.now) }
-        ensures sound { IfOk result (λ done. done ≡ true → AreSound lines.new) }
-        ensures len { IfOk result (λ done. done ≡ true
-            → length lines.new.visual.levels.items ≡ length edited.now.text.now) }
-        ensures undone { IfOk result (λ done. done ≡ false → IsSameCount counts.old counts.new) }
+        ensures lines { IfOk result (λ done. IfSome done (λ shared. held_lines lines.new
+            ≡ lines_of (rules_in edited.now.rules) edited.now.width edited.now.text.now)) }
+        ensures shared { IfOk result (λ done. IfSome done (IsShared edited.now None)) }
+        ensures sound { IfOk result (λ done. IfSome done (λ shared. AreSound lines.new)) }
+        ensures len { IfOk result (λ done. IfSome done (λ shared.
+            length lines.new.visual.levels.items ≡ length edited.now.text.now)) }
+        ensures undone { IfOk result (λ done. done ≡ None → IsSameCount counts.old counts.new) }
         ensures at_most { FillsSome (length edited.now.text.now) counts.old counts.new }
     {
         let Some(window) = window_of(edited) else {
-            return Ok(false);
+            return Ok(None);
         };
         let text = &edited.text[window.start..window.end];
         fill_properties(edited.rules.tables, text, &mut self.analysis.properties)?;
@@ -300,7 +306,7 @@ impl Workspace {
         let buffers = ready_window(&mut self.window, *properties.allocator())?;
         let starts = &mut buffers.starts;
         let Some(meeting) = fill_window(edited, window, properties, &mut self.infos, starts)? else {
-            return Ok(false);
+            return Ok(None);
         };
         let infos = &self.infos.infos;
         show_window(edited, window, meeting, infos, properties, buffers, counts)?;
@@ -311,7 +317,10 @@ impl Workspace {
             end: meeting.old_start,
         };
         lines.put_spliced(edited.change.laid.lines(), gap, &buffers.lines)?;
-        Ok(true)
+        Ok(Some(SharedLines {
+            front: window.line,
+            back: edited.change.laid.line_count() - meeting.old_line,
+        }))
     }
 }
 

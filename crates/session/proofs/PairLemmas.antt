@@ -120,7 +120,7 @@ range_of_one ks first end o read one =
     ap (λ n. take n (drop first ks)) one ∙ ap (take 1) (drop_more ks first o (slice_get_within ks first o (sym read)))
     ∙ ap (λ (x : Layout). x ∷ []) (get_or_from_slice_get ks first o o (sym read))
 
-list_of_one : (ks : List Layout) (o : Layout) → length ks ≡ 1 → o ≡ get_or ks 0 o → ks ≡ o ∷ []
+pub list_of_one : (ks : List Layout) (o : Layout) → length ks ≡ 1 → o ≡ get_or ks 0 o → ks ≡ o ∷ []
 list_of_one [] o size is = absurd (cc size)
 list_of_one (k ∷ []) o size is = ap (λ (x : Layout). x ∷ []) (sym is)
 list_of_one (k ∷ l ∷ ks) o size is = absurd (omega (arith, size))

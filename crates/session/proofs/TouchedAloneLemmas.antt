@@ -1,17 +1,20 @@
 -- An edit that touches a single paragraph makes the new text of this paragraph.
-use Rattle.std.proofs.Common.{◌≡◌, ◌∙◌, ℕ, ◌+◌, ◌-◌, ◌<◌, ◌≤◌, Bool, List, [], ◌++◌, length, take, drop, get_or, Option, Some, unwrap_or, option_map, inl, inr, refl, sym, ap, ap₂, subst, arith}
+use Rattle.std.proofs.Common.{◌≡◌, ◌∙◌, ℕ, ◌+◌, ◌-◌, ◌<◌, ◌≤◌, Bool, List, [], ◌++◌, length, take, drop, get_or, Option, None, Some, unwrap_or, option_map, inl, inr, sym, ap, ap₂, subst, arith}
 use Rattle.std.specs.Prelude.{slice_get, IfSome}
-use Rattle.std.specs.List.{concat}
 use Rattle.std.proofs.lemmas.Bool.{cases_lt}
 use Rattle.std.proofs.lemmas.List.{length-append, length-map, length-take-le, take_at}
-use Rattle.std.proofs.lemmas.Option.{get_or_from_slice_get, slice_get_within, IfSome_then}
+use Rattle.std.proofs.lemmas.Option.{get_or_from_slice_get, same_Some, slice_get_within, IfSome_then}
 use Rattle.bidi.specs.Pieces.{ParagraphsArePieces}
 use Rattle.lines.specs.Engine.{rules_of}
-use Rattle.lines.specs.Layouts.{IsLaidAt, Layout}
+use Rattle.lines.specs.Layouts.{visuals, IsLaidAt, Layout}
+use Rattle.lines.specs.Matching.{ShareEnds}
 use Rattle.lines.specs.SameKind.{IsEdited}
 use Rattle.lines.specs.declared.engine.Engine.{Engine}
+use Rattle.lines.specs.declared.matching.SharedLines.{SharedLines}
+use Rattle.lines.proofs.SharedLemmas.{none_shared}
 use Rattle.session.specs.Borders.{IsBackBorder, IsFrontBorder, IsTouchedAlone}
-use Rattle.session.specs.Joined.{BecomesBy}
+use Rattle.session.specs.Changes.{AreKnown}
+use Rattle.session.specs.Joined.{AreShared, BecomesBy}
 use Rattle.session.specs.Kept.{pars_of, rules_for, text_of}
 use Rattle.session.specs.Sessions.{state_of, IsWholeLayout}
 use Rattle.session.specs.Touched.{start_of}
@@ -106,3 +109,12 @@ module _ (law : ParagraphsArePieces) (engine : Engine) (width : ℕ) (is_measure
 
   pub becomes : (edited : Option Edited) → IfSome edited (IsTouchedAlone first front back range n) → BecomesBy (rules_of engine) width edited (before ++ (piece ++ after))
   becomes edited alone = IfSome_then edited alone (λ e is. (fresh e is, edit_is e is))
+
+-- the lines that are known to be the same after an edit of a single paragraph
+pub known_lines : (kept : List Layout) (first : Option Layout) (front back : Border) (range : TextRange) (n : ℕ) (edited : Option Edited) (new : List Layout) (shared : SharedLines)
+    → first ≡ slice_get kept front.index → IfSome edited (IsTouchedAlone first front back range n) → AreShared edited new shared → AreKnown kept front.index back.index new shared
+known_lines kept first front back range n None new shared read alone are = λ old only found one is.
+    let zeros = are only is in
+    subst (λ f. ShareEnds (visuals old) (visuals only) f shared.back) (sym zeros.0) (subst (λ b. ShareEnds (visuals old) (visuals only) 0 b) (sym zeros.1) (none_shared old only))
+known_lines kept first front back range n (Some edited) new shared read alone are = λ old only found one is.
+    subst (λ (l : Layout). ShareEnds (visuals l) (visuals only) shared.front shared.back) (same_Some edited.laid.now old (sym alone.laid ∙ read ∙ found)) (are only is)

@@ -1,10 +1,12 @@
 -- Which of a call's damaged lines have changed.
-use Rattle.std.specs.Prelude.{◌≢◌, ℕ, ◌+◌, ◌-◌, ◌<◌, ◌≤◌, List, length, min, slice_get}
+use Rattle.std.specs.Prelude.{◌≡◌, ◌≢◌, ℕ, ◌+◌, ◌-◌, ◌<◌, ◌≤◌, List, [], ◌∷◌, length, min, slice_get, Some}
 use Rattle.std.specs.List.{All}
-use Rattle.lines.specs.Layouts.{Layout}
+use Rattle.lines.specs.Layouts.{visuals, Layout}
+use Rattle.lines.specs.Matching.{ShareEnds}
 use Rattle.lines.specs.Visual.{Visual}
 use Rattle.session.specs.Damage.{Replaces}
 use Rattle.session.specs.Kept.{lines_in}
+use Rattle.lines.specs.declared.matching.SharedLines.{SharedLines}
 use Rattle.session.specs.declared.edits.ChangedLines.{ChangedLines}
 use Rattle.session.specs.declared.edits.Damage.{Damage}
 
@@ -27,6 +29,12 @@ no_lines = record { first_line = 0; old_lines = 0; new_lines = 0 }
 -- all lines as changed lines: the value right after a session is opened
 abbrev pub all_lines : List Layout → ChangedLines
 all_lines kept = record { first_line = 0; old_lines = 0; new_lines = length (lines_in kept) }
+
+-- If one paragraph replaces one other, both have these lines in common.
+abbrev pub AreKnown : List Layout → ℕ → ℕ → List Layout → SharedLines → Type 0
+AreKnown kept first end new shared =
+    (old only : Layout) → slice_get kept first ≡ Some old → end ≡ first + 1 → new ≡ only ∷ []
+    → ShareEnds (visuals old) (visuals only) shared.front shared.back
 
 -- whether a paragraph has at least one line
 abbrev pub HasLines : Layout → Type 0

@@ -4,14 +4,14 @@
 ghost use Rattle.std.specs.Prelude.{◌≡◌, ◌+◌, ◌^◌, ◌<◌, ◌≤◌, ℕ, length, map, sum_by};
 ghost use Rattle.std.specs.List.{All, slice_range};
 ghost use Rattle.lines.specs.Layouts.{visuals, Rules};
-ghost use Rattle.lines.specs.Matching.{MatchAtEnd, MatchAtStart};
-ghost use Rattle.session.specs.Changes.{without_same, HasLines};
+ghost use Rattle.lines.specs.Matching.{MatchAtEnd, MatchAtStart, ShareEnds};
+ghost use Rattle.session.specs.Changes.{without_same, AreKnown, HasLines};
 ghost use Rattle.session.specs.Kept.{lines_in, BringsTo, IsFresh};
 ghost use Rattle.session.specs.Matching.{at_width, AreBrought, IsWhole, MatchingAtEnd, MatchingAtStart};
 
 use crate::edits::{ChangedLines, Damage};
 use crate::kept::Kept;
-use lines::Extents;
+use lines::{Extents, SharedLines};
 use store::{Measured, ParagraphStore};
 
 /// How many lines of two paragraphs match, counted from one end, and whether all lines of both do.
@@ -36,7 +36,7 @@ fn matching_of(count: usize, lines: usize, others: usize) -> Matching
 fn start_of_pair(old: &Kept, new: &Kept) -> Matching
     ensures { MatchingAtStart old.now new.now result }
 {
-    let count = old.laid().matching_at_start(new.laid());
+    let count = old.laid().matching_at_start(new.laid(), SharedLines::NONE);
     matching_of(count, old.lines(), new.lines())
 }
 
@@ -44,7 +44,7 @@ fn start_of_pair(old: &Kept, new: &Kept) -> Matching
 fn end_of_pair(old: &Kept, new: &Kept) -> Matching
     ensures { MatchingAtEnd old.now new.now result }
 {
-    let count = old.laid().matching_at_end(new.laid());
+    let count = old.laid().matching_at_end(new.laid(), SharedLines::NONE);
     matching_of(count, old.lines(), new.lines())
 }
 
@@ -85,18 +85,19 @@ pub struct SameEnds {
     pub end: usize,
 }
 
-// Returns how many lines at each end of two paragraphs are the same.
-fn ends_of_pair(old: &Kept, new: &Kept) -> SameEnds
+// Returns how many lines at each end of two paragraphs are the same. Does not compare the lines in `shared`.
+fn ends_of_pair(old: &Kept, new: &Kept, shared: SharedLines) -> SameEnds
+    requires { ShareEnds (visuals old.now) (visuals new.now) shared.front shared.back }
     ensures start { MatchAtStart (visuals old.now) (visuals new.now) result.start }
     ensures end { MatchAtEnd (visuals old.now) (visuals new.now) result.end }
 {
     let lines = old.lines();
-    let start = old.laid().matching_at_start(new.laid());
+    let start = old.laid().matching_at_start(new.laid(), shared);
     // Fast path: if all lines but the last of each paragraph match from the start, the last lines differ.
     let end = if new.lines() == lines && start < lines && lines - start == 1 {
         0
     } else {
-        old.laid().matching_at_end(new.laid())
+        old.laid().matching_at_end(new.laid(), shared)
     };
     SameEnds { start, end }
 }
@@ -114,18 +115,21 @@ fn line_count(new: &[Kept]) -> usize
 }
 
 /// Returns how many lines at each end of a range of paragraphs are the same in the new paragraphs. `lines` is
-/// the number of lines in the range.
+/// the number of lines in the range. If one paragraph replaces one other, does not compare the lines in
+/// `shared`.
 pub fn same_ends<S: ParagraphStore<Kept>>(
     store: &S,
     first: usize,
     end: usize,
     lines: usize,
     new: &[Kept],
+    shared: SharedLines,
 ) -> SameEnds
     requires order { first ≤ end }
     requires within { end ≤ length (S.items store.now) }
     requires lines { lines ≡ length (lines_in (slice_range (S.items store.now) first end)) }
     requires fit { sum_by (λ l. length l.lines) new.now < 2 ^ 64 }
+    requires shared { AreKnown (S.items store.now) first end new.now shared }
     ensures start { All HasLines (S.items store.now) → All HasLines new.now → MatchAtStart
         (lines_in (slice_range (S.items store.now) first end)) (lines_in new.now) result.start }
     ensures end { All HasLines (S.items store.now) → All HasLines new.now → MatchAtEnd
@@ -136,7 +140,7 @@ pub fn same_ends<S: ParagraphStore<Kept>>(
         let Some(kept) = store.get(first) else {
             unreachable!()
         };
-        return ends_of_pair(kept, &new[0]);
+        return ends_of_pair(kept, &new[0], shared);
     }
     let start = matching_at_start(store, first, end, new);
     // Fast path: if all lines but the last of each side match from the start, these two last lines differ.

@@ -5,13 +5,14 @@ ghost use Rattle.std.specs.Prelude.{length, List, [], ℕ};
 ghost use Rattle.std.specs.Prelude.{nat_le, replicate, sum, None, Option, Some, IfOk, IfErr, IsErrOf};
 ghost use Rattle.std.specs.Str.{chars};
 ghost use Rattle.lines.specs.Engine.{rules_of, LaysOutAtMost, SameRules};
-ghost use Rattle.lines.specs.Layouts.{cut_by, layout_of, with_advances, HaveRoom, IsParagraph};
+ghost use Rattle.lines.specs.Layouts.{cut_by, layout_of, visuals, with_advances, HaveRoom, IsParagraph};
+ghost use Rattle.lines.specs.Matching.{ShareEnds};
 ghost use Rattle.lines.specs.Measures.{given_if};
 ghost use Rattle.lines.specs.declared.engine.TheConstants.{PARAGRAPH_LIMIT};
 ghost use Rattle.session.specs.Sessions.{IsCountedFor};
 ghost use Rattle.session.specs.Edits.{is_within_limit, paragraphs_refusal, room_refusal};
 ghost use Rattle.bidi.specs.Cuts.{paragraphs};
-ghost use Rattle.session.specs.Joined.{joined_advances, joined_text, BecomesBy};
+ghost use Rattle.session.specs.Joined.{joined_advances, joined_text, AreShared, BecomesBy, IsShared};
 ghost use Rattle.session.specs.Kept.{back_advances, front_advances, layouts_of, AreForEach};
 ghost use Rattle.session.specs.Sessions.{IsAnswerFor};
 ghost use Rattle.session.specs.declared.edits.EditFault.TheVariants.{NoMemory};
@@ -21,7 +22,7 @@ use crate::kept::Kept;
 use crate::room::has_room;
 use crate::scan::Scan;
 use bidi::paragraphs_are_pieces;
-use lines::{Engine, Laid, PARAGRAPH_LIMIT, Replacement};
+use lines::{Engine, Laid, PARAGRAPH_LIMIT, Replacement, SharedLines};
 use std::alloc::{AllocError, Global};
 use stream::push_characters;
 
@@ -242,9 +243,11 @@ pub struct Edited<'a> {
 }
 
 // Lays out one paragraph that an edit has made of a laid-out one. Its text and advances move into the layout.
+// Stores in `shared` which lines are known to be those of the laid-out paragraph.
 fn lay_out_edited(
     alloc: Global,
     engine: &mut Engine,
+    shared: &mut SharedLines,
     edited: Edited<'_>,
     text: Vec<char>,
     advances: Vec<u32>,
@@ -257,23 +260,27 @@ fn lay_out_edited(
     requires room { HaveRoom (given_if form.is_measured advances.items) }
     ensures ok { IfOk result (λ kept. kept ≡ layout_of (with_advances (rules_of engine.old)
         (given_if form.is_measured advances.items)) form.width text.items) }
+    ensures shared { IfOk result (λ kept. ShareEnds (visuals edited.entry.laid.now) (visuals kept)
+        shared.new.front shared.new.back) }
     ensures rules { SameRules engine.old engine.new }
     ensures counts { LaysOutAtMost (length text.items) engine.old engine.new }
 {
-    let Edited { laid, edit } = edited;
+    let Edited { laid: old, edit } = edited;
     let width = form.width;
-    let laid = if form.is_measured {
-        engine.lay_out_measured_edited(alloc, laid, edit, text, advances, width)?
+    let done = if form.is_measured {
+        engine.lay_out_measured_edited(alloc, old, edit, text, advances, width)?
     } else {
-        engine.lay_out_edited(alloc, laid, edit, text, width)?
+        engine.lay_out_edited(alloc, old, edit, text, width)?
     };
-    Kept::new(alloc, laid)
+    *shared = done.1;
+    Kept::new(alloc, done.0)
 }
 
 // Lays out one paragraph, with `lay_out_edited` if an edit has made it of a laid-out one.
 fn lay_out_single(
     alloc: Global,
     engine: &mut Engine,
+    shared: &mut SharedLines,
     edited: Option<Edited<'_>>,
     text: Vec<char>,
     advances: Vec<u32>,
@@ -286,12 +293,16 @@ fn lay_out_single(
     requires room { HaveRoom (given_if form.is_measured advances.items) }
     ensures ok { IfOk result (λ kept. kept ≡ layout_of (with_advances (rules_of engine.old)
         (given_if form.is_measured advances.items)) form.width text.items) }
+    ensures shared { IfOk result (λ kept. IsShared edited.entry kept shared.new) }
     ensures rules { SameRules engine.old engine.new }
     ensures counts { LaysOutAtMost (length text.items) engine.old engine.new }
 {
     match edited {
-        Some(edited) => lay_out_edited(alloc, engine, edited, text, advances, form),
-        None => lay_out_owned(alloc, engine, text, advances, form),
+        Some(edited) => lay_out_edited(alloc, engine, shared, edited, text, advances, form),
+        None => {
+            *shared = SharedLines::NONE;
+            lay_out_owned(alloc, engine, text, advances, form)
+        }
     }
 }
 
@@ -307,10 +318,12 @@ fn trim(list: Vec<char>) -> Vec<char>
 }
 
 // Lays out each paragraph of a nonempty text once. A text that is a single paragraph moves into the layout.
-// If an edit has made the text of a single paragraph, `edited` is that paragraph.
+// If an edit has made the text of a single paragraph, `edited` is that paragraph, and the function stores in
+// `shared` which lines are known to be the same in both.
 fn lay_out(
     alloc: Global,
     engine: &mut Engine,
+    shared: &mut SharedLines,
     edited: Option<Edited<'_>>,
     text: Vec<char>,
     advances: Vec<u32>,
@@ -325,6 +338,7 @@ fn lay_out(
         (paragraphs (cut_by (rules_of engine.old)) text.items) ≡ None }
     ensures ok { IfOk result (λ kept. kept.items ≡ layouts_of (with_advances (rules_of engine.old)
         (given_if form.is_measured advances.items)) form.width text.items) }
+    ensures shared { IfOk result (λ kept. AreShared edited.entry kept.items shared.new) }
     ensures rules { SameRules engine.old engine.new }
     ensures counts { LaysOutAtMost (length text.items) engine.old engine.new }
 {
@@ -332,6 +346,7 @@ fn lay_out(
     paragraphs_are_pieces();
     match engine.first_cut(&text) {
         Some(_) => {
+            *shared = SharedLines::NONE;
             let part = Part {
                 text: &text,
                 advances: &advances,
@@ -340,7 +355,8 @@ fn lay_out(
         }
         None => {
             let mut kept = Vec::with_capacity(alloc, 1)?;
-            kept.push(lay_out_single(alloc, engine, edited, trim(text), advances, form)?)?;
+            let text = trim(text);
+            kept.push(lay_out_single(alloc, engine, shared, edited, text, advances, form)?)?;
             Ok(kept)
         }
     }
@@ -409,6 +425,7 @@ fn lay_out_each(
 fn lay_out_parts(
     alloc: Global,
     engine: &mut Engine,
+    shared: &mut SharedLines,
     edited: Option<Edited<'_>>,
     front: &Part<'_>,
     piece: &str,
@@ -427,6 +444,7 @@ fn lay_out_parts(
     ensures ok { IfOk result (λ kept. kept.items ≡ layouts_of (with_advances (rules_of engine.old)
         (joined_advances form.is_measured front.now piece.now back.now)) form.width
         (joined_text front.now piece.now back.now)) }
+    ensures shared { IfOk result (λ kept. AreShared edited.entry kept.items shared.new) }
     ensures rules { SameRules engine.old engine.new }
     ensures counts { LaysOutAtMost (length (joined_text front.now piece.now back.now))
         engine.old engine.new }
@@ -434,16 +452,18 @@ fn lay_out_parts(
     let text = joined(alloc, engine, front.text, piece, back.text)?;
     let (is_measured, len) = (form.is_measured, text.len());
     let advances = joined_advances(alloc, is_measured, front.advances, len, back.advances)?;
-    lay_out(alloc, engine, edited, text, advances, form)
+    lay_out(alloc, engine, shared, edited, text, advances, form)
 }
 
 /// Lays out the paragraphs of the joined text, in which inserted characters have advance 0. Fails with
 /// `ParagraphTooLong`, without allocating, if a paragraph is too long or the sum of its advances is too
 /// large. Fails with `NoMemory` if an allocation fails. If an edit has made the text of a single paragraph,
-/// `edited` is that paragraph.
+/// `edited` is that paragraph, and the function stores in `shared` which lines are known to be the same in
+/// both.
 pub fn lay_out_joined(
     alloc: Global,
     engine: &mut Engine,
+    shared: &mut SharedLines,
     edited: Option<Edited<'_>>,
     front: &Part<'_>,
     piece: &str,
@@ -461,6 +481,7 @@ pub fn lay_out_joined(
     ensures ok { IfOk result (λ kept. kept.items ≡ layouts_of (with_advances (rules_of engine.old)
         (joined_advances form.is_measured front.now piece.now back.now)) form.width
         (joined_text front.now piece.now back.now)) }
+    ensures shared { IfOk result (λ kept. AreShared edited.entry kept.items shared.new) }
     ensures err { IfErr result (IsAnswerFor (paragraphs_refusal (cut_by (rules_of engine.old))
         (joined_advances form.is_measured front.now piece.now back.now)
         (joined_text front.now piece.now back.now))) }
@@ -478,9 +499,10 @@ pub fn lay_out_joined(
         return Err(EditFault::ParagraphTooLong);
     }
     if are_empty(front.text, piece, back.text) {
+        *shared = SharedLines::NONE;
         return Ok(Vec::new(alloc));
     }
-    match lay_out_parts(alloc, engine, edited, front, piece, back, form) {
+    match lay_out_parts(alloc, engine, shared, edited, front, piece, back, form) {
         Ok(kept) => Ok(kept),
         Err(_) => Err(EditFault::NoMemory),
     }

@@ -18,7 +18,7 @@ use crate::joined::Form;
 use crate::kept::Kept;
 use crate::replace::put;
 use bidi::paragraphs_are_pieces;
-use lines::{Engine, lines_are_few};
+use lines::{Engine, SharedLines, lines_are_few};
 use std::alloc::{AllocError, Global};
 use store::{Measured, ParagraphStore};
 
@@ -220,7 +220,7 @@ pub fn set_advances<S: ParagraphStore<Kept>>(
     let Ok(new) = laid else {
         return Err(AdvanceFault::NoMemory);
     };
-    match put(engine, store, changed, front, back, new) {
+    match put(engine, store, changed, front, back, new, SharedLines::NONE) {
         Ok(damage) => Ok(damage),
         Err(_) => Err(AdvanceFault::NoMemory),
     }

@@ -3,7 +3,7 @@ ghost use Rattle.std.specs.Prelude.{◌≡◌, ◌+◌, ◌-◌, ◌^◌, ◌<�
 ghost use Rattle.std.specs.Prelude.{option_map, IfOk, IfErr, IfSome, IsErrOf, OnOk, OnErr};
 ghost use Rattle.std.specs.List.{splice};
 ghost use Rattle.std.specs.Str.{chars};
-ghost use Rattle.session.specs.Changes.{AreFound};
+ghost use Rattle.session.specs.Changes.{AreFound, AreKnown};
 ghost use Rattle.session.specs.Sessions.{state_of, Edits, EditsNot, IsWholeLayout};
 ghost use Rattle.session.specs.Edits.{replacing};
 ghost use Rattle.session.specs.Kept.{text_of};
@@ -18,7 +18,7 @@ use crate::edits::{ChangedLines, Damage, EditFault, TEXT_LIMIT, TextRange};
 use crate::joined::{Edited, Form, lay_out_joined};
 use crate::kept::Kept;
 use bidi::paragraphs_are_pieces;
-use lines::{Engine, Replacement, lines_are_few};
+use lines::{Engine, Replacement, SharedLines, lines_are_few};
 use std::alloc::Global;
 use store::ParagraphStore;
 
@@ -32,8 +32,9 @@ fn recycle(engine: &mut Engine, old: Vec<Kept>)
     }
 }
 
-/// Replaces the paragraphs between two borders, and stores in `changed` which lines this changed. Returns the
-/// damage. If an allocation fails, changes nothing and fails with `NoMemory`.
+/// Replaces the paragraphs between two borders, and stores in `changed` which lines this changed. If one
+/// paragraph replaces one other, `shared` are lines that are known to be the same. Returns the damage. If an
+/// allocation fails, changes nothing and fails with `NoMemory`.
 pub fn put<S: ParagraphStore<Kept>>(
     engine: &mut Engine,
     store: &mut S,
@@ -41,6 +42,7 @@ pub fn put<S: ParagraphStore<Kept>>(
     front: Border,
     back: Border,
     new: Vec<Kept>,
+    shared: SharedLines,
 ) -> Result<Damage, EditFault>
     requires front { IsBorder (S.items store.old) front }
     requires back { IsBorder (S.items store.old) back }
@@ -53,6 +55,7 @@ pub fn put<S: ParagraphStore<Kept>>(
         (splice (S.items store.old) front.index back.index new.items) < 2 ^ 64 }
     requires utf16_fit { sum_by (λ l. length_in Utf16 l.text)
         (splice (S.items store.old) front.index back.index new.items) < 2 ^ 64 }
+    requires shared { AreKnown (S.items store.old) front.index back.index new.items shared }
     ensures ok { OnOk result
         (S.items store.new ≡ splice (S.items store.old) front.index back.index new.items) }
     ensures damage { IfOk result (λ damage. damage ≡ damage_between front back new.items) }
@@ -65,7 +68,8 @@ pub fn put<S: ParagraphStore<Kept>>(
     ensures engine { engine.new ≡ engine.old }
 {
     let old_lines = back.lines - front.lines;
-    let same = same_ends(store, front.index, back.index, old_lines, &new);
+    let (first, end) = (front.index, back.index);
+    let same = same_ends(store, first, end, old_lines, &new, shared);
     let (total, new_pars) = (store.total_lines(), new.len());
     match store.replace(front.index..back.index, new) {
         Ok(old) => recycle(engine, old),
@@ -157,9 +161,20 @@ pub fn replace<S: ParagraphStore<Kept>>(
         back_part(last, end),
     );
     let edited = edited_paragraph(first, front, back, range, inserted);
-    let new = match lay_out_joined(alloc, engine, edited, &before, piece, &after, form) {
+    let mut shared = SharedLines::NONE;
+    let laid = lay_out_joined(
+        alloc,
+        engine,
+        &mut shared,
+        edited,
+        &before,
+        piece,
+        &after,
+        form,
+    );
+    let new = match laid {
         Ok(new) => new,
         Err(fault) => return Err(fault),
     };
-    put(engine, store, changed, front, back, new)
+    put(engine, store, changed, front, back, new, shared)
 }

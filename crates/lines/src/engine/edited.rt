@@ -3,8 +3,9 @@ ghost use Rattle.std.specs.Prelude.{◌≡◌, ◌^◌, ◌<◌, ◌≤◌, List
 ghost use Rattle.std.specs.Prelude.{IfOk};
 ghost use Rattle.lines.specs.Engine.{rules_of, FillsAtMost, LaysOutAtMost, SameRules};
 ghost use Rattle.lines.specs.HeldLayouts.{HoldsLayout};
-ghost use Rattle.lines.specs.Layouts.{layout_of, with_advances};
+ghost use Rattle.lines.specs.Layouts.{layout_of, visuals, with_advances};
 ghost use Rattle.lines.specs.Layouts.{HaveRoom, IsLaidAt, IsParagraph};
+ghost use Rattle.lines.specs.Matching.{ShareEnds};
 ghost use Rattle.lines.specs.SameKind.{IsEdited, IsInRun, MakesText};
 ghost use Rattle.lines.specs.declared.engine.TheConstants.{PARAGRAPH_LIMIT};
 
@@ -12,6 +13,7 @@ use crate::buffers::LayoutBuffers;
 use crate::engine::Engine;
 use crate::fill::Fill;
 use crate::laid::{Laid, put_all_widths, with_room};
+use crate::matching::SharedLines;
 use crate::paragraph::LentRules;
 use crate::same_kind::{Replacement, RunChange, run_of};
 use crate::sizes::Ruler;
@@ -23,8 +25,8 @@ impl Engine {
     /// all inserted and removed characters are of the same kind as a character next to them, copies the
     /// levels and break marks, and analyses nothing. This requires a kind that can be doubled (see
     /// `bidi::doubling_keeps_levels` and `breaks::doubling_keeps_marks`). In a long paragraph, fills only
-    /// the lines around the edit. The old paragraph must have been laid out with this engine's tables and
-    /// options, and at the same width.
+    /// the lines around the edit. Also returns how many lines at both ends are known to be the old ones. The
+    /// old paragraph must have been laid out with this engine's tables and options, and at the same width.
     pub fn lay_out_edited(
         &mut self,
         alloc: Global,
@@ -32,13 +34,15 @@ impl Engine {
         edit: Replacement,
         text: Vec<char>,
         width: u32,
-    ) -> Result<Laid, AllocError>
+    ) -> Result<(Laid, SharedLines), AllocError>
         requires laid { IsLaidAt (with_advances (rules_of self.old) old.now.advances) width old.now }
         requires edit { IsEdited old.now.text text.items edit }
         requires paragraph { IsParagraph (rules_of self.old) text.items }
         requires width { 0 < width }
-        ensures ok { IfOk result (λ laid. laid ≡ layout_of (rules_of self.old) width text.items) }
-        ensures run { IfOk result (λ laid. IsInRun (rules_of self.old).tables old.now.text text.items edit
+        ensures ok { IfOk result (λ done. done.0 ≡ layout_of (rules_of self.old) width text.items) }
+        ensures shared { IfOk result (λ done. ShareEnds (visuals old.now) (visuals done.0)
+            done.1.front done.1.back) }
+        ensures run { IfOk result (λ done. IsInRun (rules_of self.old).tables old.now.text text.items edit
             → FillsAtMost (length text.items) self.old self.new) }
         ensures at_most { LaysOutAtMost (length text.items) self.old self.new }
 
@@ -48,14 +52,14 @@ impl Engine {
     {
         let Some(run) = run_of(&self.tables, old.text(), &text, edit) else {
             return match self.lay_out(alloc, text, width) {
-                Ok(laid) => Ok(laid),
+                Ok(laid) => Ok((laid, SharedLines::NONE)),
                 Err((_text, error)) => Err(error),
             };
         };
         let mut lists = LayoutBuffers::new(alloc);
         let change = RunChange { laid: old, run };
-        let base = self.fill_run(alloc, change, &text, None, width, &mut lists)?;
-        Ok(Laid {
+        let (base, shared) = self.fill_run(alloc, change, &text, None, width, &mut lists)?;
+        let laid = Laid {
             text,
             base,
             tab_width: self.tab_width(),
@@ -65,7 +69,8 @@ impl Engine {
             marks: lists.marks,
             ends: lists.ends,
             lines: Fill::of(lists.lines),
-        })
+        };
+        Ok((laid, shared))
     }
 
     /// Lays out a measured paragraph that an edit has made of a laid-out one, with the same result as
@@ -78,31 +83,35 @@ impl Engine {
         text: Vec<char>,
         advances: Vec<u32>,
         width: u32,
-    ) -> Result<Laid, AllocError>
+    ) -> Result<(Laid, SharedLines), AllocError>
         requires laid { IsLaidAt (with_advances (rules_of self.old) old.now.advances) width old.now }
         requires edit { IsEdited old.now.text text.items edit }
         requires paragraph { IsParagraph (rules_of self.old) text.items }
         requires width { 0 < width }
         requires len { length advances.items ≡ length text.items }
         requires room { sum advances.items < 2 ^ 32 }
-        ensures ok { IfOk result (λ laid. laid
+        ensures ok { IfOk result (λ done. done.0
             ≡ layout_of (with_advances (rules_of self.old) (Some advances.items)) width text.items) }
-        ensures run { IfOk result (λ laid. IsInRun (rules_of self.old).tables old.now.text text.items edit
+        ensures shared { IfOk result (λ done. ShareEnds (visuals old.now) (visuals done.0)
+            done.1.front done.1.back) }
+        ensures run { IfOk result (λ done. IsInRun (rules_of self.old).tables old.now.text text.items edit
             → FillsAtMost (length text.items) self.old self.new) }
         ensures at_most { LaysOutAtMost (length text.items) self.old self.new }
         ensures rules { SameRules self.old self.new }
     {
         let Some(run) = run_of(&self.tables, old.text(), &text, edit) else {
-            return self.lay_out_measured(alloc, text, advances, width);
+            let laid = self.lay_out_measured(alloc, text, advances, width)?;
+            return Ok((laid, SharedLines::NONE));
         };
         let mut lists = LayoutBuffers::new(alloc);
         let change = RunChange { laid: old, run };
-        let base = self.fill_run(alloc, change, &text, Some(&advances), width, &mut lists)?;
+        let (base, shared) =
+            self.fill_run(alloc, change, &text, Some(&advances), width, &mut lists)?;
         let tab_width = self.tab_width();
         let lines = Fill::of(lists.lines);
         let mut sizes = with_room(advances, tab_width)?;
         put_all_widths(true, &text, tab_width, &lines, &mut sizes);
-        Ok(Laid {
+        let laid = Laid {
             text,
             base,
             tab_width,
@@ -112,11 +121,12 @@ impl Engine {
             marks: lists.marks,
             ends: lists.ends,
             lines,
-        })
+        };
+        Ok((laid, shared))
     }
 
     // Does the same as `fill_lists` for a paragraph that a run edit has made of a laid-out one, but analyses
-    // nothing.
+    // nothing. Also returns which lines are known to be the old ones.
     fn fill_run(
         &mut self,
         alloc: Global,
@@ -125,12 +135,15 @@ impl Engine {
         advances: Option<&[u32]>,
         width: u32,
         lists: &mut LayoutBuffers,
-    ) -> Result<u8, AllocError>
+    ) -> Result<(u8, SharedLines), AllocError>
         requires change { MakesText (rules_of self.old) width change text.now }
         requires limit { length text.now ≤ PARAGRAPH_LIMIT }
         requires room { HaveRoom (option_map (λ list. list.now) advances) }
-        ensures layout { IfOk result (λ base. HoldsLayout (with_advances (rules_of self.old)
-            (option_map (λ list. list.now) advances.entry)) width text.now base lists.new) }
+        ensures layout { IfOk result (λ done. HoldsLayout (with_advances (rules_of self.old)
+            (option_map (λ list. list.now) advances.entry)) width text.now done.0 lists.new) }
+        ensures shared { IfOk result (λ done. ShareEnds (visuals change.entry.laid.now)
+            (visuals (layout_of (with_advances (rules_of self.old)
+            (option_map (λ list. list.now) advances.entry)) width text.now)) done.1.front done.1.back) }
         ensures unmeasured { (rules_of self.old).advances ≡ None }
         ensures at_most { FillsAtMost (length text.now) self.old self.new }
         ensures rules { SameRules self.old self.new }
@@ -146,7 +159,7 @@ impl Engine {
             sizes: advances,
             width,
         };
-        let base = work.lay_out_run(&rules, change, text, ruler, lists, counts)?;
-        Ok(base)
+        let done = work.lay_out_run(&rules, change, text, ruler, lists, counts)?;
+        Ok(done)
     }
 }

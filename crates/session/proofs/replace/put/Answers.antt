@@ -3,7 +3,7 @@ use Rattle.std.specs.List.{All, slice_range, splice}
 use Rattle.lines.specs.Layouts.{Layout}
 use Rattle.lines.specs.Matching.{MatchAtEnd, MatchAtStart}
 use Rattle.session.specs.Borders.{damage_between}
-use Rattle.session.specs.Changes.{without_same, AreFound, HasLines}
+use Rattle.session.specs.Changes.{without_same, AreFound, AreKnown, HasLines}
 use Rattle.session.specs.Kept.{lines_in}
 use Rattle.session.specs.declared.edits.ChangedLines.{ChangedLines}
 use Rattle.session.specs.declared.edits.Damage.{Damage}
@@ -24,6 +24,10 @@ pub same_ends-same-requires-clause-fit : goal.same_ends-same-requires-clause-fit
 same_ends-same-requires-clause-fit g c =
     let most = new_most (g.S.ParagraphStore.items c.args.store.now) c.args.new.items c.args.front c.args.back c.requires.front c.requires.back c.requires.order in
     subst (λ (ns : List Layout). sum_by lines_of ns < 2 ^ 64) (sym c.deref.ensures.value) (omega (arith, most, c.requires.lines_fit))
+
+pub same_ends-same-requires-clause-shared : goal.same_ends-same-requires-clause-shared
+same_ends-same-requires-clause-shared g c =
+    subst (λ (ns : List Layout). AreKnown (g.S.ParagraphStore.items c.args.store.now) c.args.front.index c.args.back.index ns c.args.shared) (sym c.deref.ensures.value) c.requires.shared
 
 pub overflow_sub-damage : goal.overflow_sub-damage
 overflow_sub-damage g c =

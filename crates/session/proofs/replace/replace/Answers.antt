@@ -18,7 +18,7 @@ use Rattle.session.proofs.EditLemmas.{back_each, front_each, rise, chars_fit, li
 use Rattle.session.proofs.UnitLemmas.{utf8_few, utf16_few}
 use Rattle.session.proofs.RefusalLemmas.{allowed-length, refusal-too_long}
 use Rattle.session.specs.declared.edits.TheConstants.{TEXT_LIMIT}
-use Rattle.session.proofs.TouchedAloneLemmas.{becomes}
+use Rattle.session.proofs.TouchedAloneLemmas.{becomes, known_lines}
 use Rattle.session.proofs.WantLemmas.{fault_in, of_err, some_joined, some_put}
 use Rattle.session.proofs.replace.replace.Goals as goal
 use Rattle.session.proofs.replace.replace.Goals.{then-pos-len-via-then-pos-len, then-pos-len-via-else-pos-len+then-count-len}
@@ -70,8 +70,8 @@ last_touched-last-requires-clause-to g c =
     let within : c.args.range.pos + c.args.range.count ≤ length (text_of kept) = omega (arith, size) in
     within
 
-pub lay_out_joined-requires-clause-front : goal.lay_out_joined-requires-clause-front
-lay_out_joined-requires-clause-front g c =
+pub lay_out_joined-laid-requires-clause-front : goal.lay_out_joined-laid-requires-clause-front
+lay_out_joined-laid-requires-clause-front g c =
     let kept = g.S.ParagraphStore.items c.args.store.now in
     let piece = chars c.args.piece.now in
     let size : c.total_chars-len.result ≡ length (text_of kept) = c.total_chars-len.ensures ∙ sym (length-text kept) in
@@ -82,8 +82,8 @@ lay_out_joined-requires-clause-front g c =
     subst (λ (t : List ℕ). AreForEach (given_if c.args.form.is_measured c.front_part-before.result.advances.now) t) (sym (c.front_part-before.ensures.text kept c.get-first.ensures))
     (subst (λ (l : List ℕ). AreForEach (given_if c.args.form.is_measured l) (front_of (pars_of kept) c.front_border-front.result c.args.range.pos)) (sym (c.front_part-before.ensures.advances kept c.get-first.ensures)) each)
 
-pub lay_out_joined-requires-clause-back : goal.lay_out_joined-requires-clause-back
-lay_out_joined-requires-clause-back g c =
+pub lay_out_joined-laid-requires-clause-back : goal.lay_out_joined-laid-requires-clause-back
+lay_out_joined-laid-requires-clause-back g c =
     let kept = g.S.ParagraphStore.items c.args.store.now in
     let piece = chars c.args.piece.now in
     let size : c.total_chars-len.result ≡ length (text_of kept) = c.total_chars-len.ensures ∙ sym (length-text kept) in
@@ -94,8 +94,8 @@ lay_out_joined-requires-clause-back g c =
     subst (λ (t : List ℕ). AreForEach (given_if c.args.form.is_measured c.back_part-after.result.advances.now) t) (sym (c.back_part-after.ensures.text kept c.last_touched-last.ensures.kept _ refl))
     (subst (λ (l : List ℕ). AreForEach (given_if c.args.form.is_measured l) (back_of (pars_of kept) c.last_touched-last.result.end (c.args.range.pos + c.args.range.count))) (sym (c.back_part-after.ensures.advances kept c.last_touched-last.ensures.kept _ refl)) each)
 
-pub lay_out_joined-requires-clause-edited : goal.lay_out_joined-requires-clause-edited
-lay_out_joined-requires-clause-edited g c =
+pub lay_out_joined-laid-requires-clause-edited : goal.lay_out_joined-laid-requires-clause-edited
+lay_out_joined-laid-requires-clause-edited g c =
     let kept = g.S.ParagraphStore.items c.args.store.now in
     let piece = chars c.args.piece.now in
     let size : c.total_chars-len.result ≡ length (text_of kept) = c.total_chars-len.ensures ∙ sym (length-text kept) in
@@ -122,10 +122,10 @@ returns-in-Err-clause-err g c =
     let few = c.lines_are_few.ensures in
     let by = rules_of c.args.engine.now in
     let answer = subst (λ o. IsAnswerFor o c.in-Err.fault) (ap₂ (λ (a : Option (List ℕ)) (t : List ℕ). paragraphs_refusal (cut_by by) a t) given parts) c.in-Err.ensures.err in
-    let counts = subst (λ t. IsCountedFor c.in-Err.fault (LaysOutAtMost (length t)) c.args.engine.now c.lay_out_joined.new.engine) parts c.in-Err.ensures.refused in
+    let counts = subst (λ t. IsCountedFor c.in-Err.fault (LaysOutAtMost (length t)) c.args.engine.now c.lay_out_joined-laid.new.engine) parts c.in-Err.ensures.refused in
     EditsNot-by_region law few c.args.engine.now c.args.form.width c.args.form.is_measured kept c.requires c.args.range.pos c.args.range.count piece within
-    c.front_border-front.result c.last_touched-last.result.end f b c.lay_out_joined.new.engine c.in-Err.fault short answer
-    c.lay_out_joined.ensures.rules counts
+    c.front_border-front.result c.last_touched-last.result.end f b c.lay_out_joined-laid.new.engine c.in-Err.fault short answer
+    c.lay_out_joined-laid.ensures.rules counts
 
 pub returns-in-Err-clause-memory : goal.returns-in-Err-clause-memory
 returns-in-Err-clause-memory g c wants =
@@ -161,6 +161,12 @@ put-requires-clause-chars_fit g c =
     let few = c.lines_are_few.ensures in
     let laid = c.in-Ok.ensures.ok ∙ ap₂ (λ (a : Option (List ℕ)) (t : List ℕ). layouts_of (with_advances (rules_of c.args.engine.now) a) c.args.form.width t) given parts in
     chars_fit law few c.args.engine.now c.args.form.width c.args.form.is_measured kept c.requires c.args.range.pos c.args.range.count piece within c.front_border-front.result c.last_touched-last.result.end f b c.in-Ok.new.items laid short
+
+pub put-requires-clause-shared : goal.put-requires-clause-shared
+put-requires-clause-shared g c =
+    let kept = g.S.ParagraphStore.items c.args.store.now in
+    known_lines kept _ c.front_border-front.result c.last_touched-last.result.end c.args.range c.count-inserted.result c.edited_paragraph-edited.result c.in-Ok.new.items c.lay_out_joined-laid.new.shared
+    c.get-first.ensures c.edited_paragraph-edited.ensures c.in-Ok.ensures.shared
 
 pub put-requires-clause-bytes_fit : goal.put-requires-clause-bytes_fit
 put-requires-clause-bytes_fit g c =
@@ -231,13 +237,13 @@ returns-clause-ok g c =
     let old : SessionState = state_of c.args.engine.now c.args.form.width c.args.form.is_measured kept in
     let laid = c.in-Ok.ensures.ok ∙ ap₂ (λ (a : Option (List ℕ)) (t : List ℕ). layouts_of (with_advances by a) c.args.form.width t) given parts in
     let allowed = sym (ap₂ (λ (a : Option (List ℕ)) (t : List ℕ). paragraphs_refusal (cut_by by) a t) given parts) ∙ c.in-Ok.ensures.allowed in
-    let counts = subst (λ t. LaysOutAtMost (length t) c.args.engine.now c.lay_out_joined.new.engine) parts c.lay_out_joined.ensures.counts in
+    let counts = subst (λ t. LaysOutAtMost (length t) c.args.engine.now c.lay_out_joined-laid.new.engine) parts c.lay_out_joined-laid.ensures.counts in
     rw c.put.ensures.engine (ends_ok (λ ks. Edits (replacing c.args.range.pos c.args.range.count piece) old
-    (state_of c.lay_out_joined.new.engine c.args.form.width c.args.form.is_measured ks)) c.put.result _ _ _
+    (state_of c.lay_out_joined-laid.new.engine c.args.form.width c.args.form.is_measured ks)) c.put.result _ _ _
     c.put.ensures.ok c.put.ensures.damage
     (Edits-after law few c.args.engine.now c.args.form.width c.args.form.is_measured kept c.requires c.args.range.pos c.args.range.count piece within
-    c.front_border-front.result c.last_touched-last.result.end f b c.in-Ok.new.items laid short c.lay_out_joined.new.engine
-    allowed c.lay_out_joined.ensures.rules counts))
+    c.front_border-front.result c.last_touched-last.result.end f b c.in-Ok.new.items laid short c.lay_out_joined-laid.new.engine
+    allowed c.lay_out_joined-laid.ensures.rules counts))
 
 pub returns-clause-err : goal.returns-clause-err
 returns-clause-err g c =
@@ -256,13 +262,13 @@ returns-clause-err g c =
     let by = rules_of c.args.engine.now in
     let old : SessionState = state_of c.args.engine.now c.args.form.width c.args.form.is_measured kept in
     let allowed = sym (ap₂ (λ (a : Option (List ℕ)) (t : List ℕ). paragraphs_refusal (cut_by by) a t) given parts) ∙ c.in-Ok.ensures.allowed in
-    let counts = subst (λ t. LaysOutAtMost (length t) c.args.engine.now c.lay_out_joined.new.engine) parts c.lay_out_joined.ensures.counts in
+    let counts = subst (λ t. LaysOutAtMost (length t) c.args.engine.now c.lay_out_joined-laid.new.engine) parts c.lay_out_joined-laid.ensures.counts in
     rw c.put.ensures.engine (ends_err (λ ks. EditsNot (replacing c.args.range.pos c.args.range.count piece) old
-    (state_of c.lay_out_joined.new.engine c.args.form.width c.args.form.is_measured ks)) c.put.result _ _
+    (state_of c.lay_out_joined-laid.new.engine c.args.form.width c.args.form.is_measured ks)) c.put.result _ _
     c.put.ensures.err c.put.ensures.fault
     (EditsNot-by_region law few c.args.engine.now c.args.form.width c.args.form.is_measured kept c.requires c.args.range.pos c.args.range.count piece within
-    c.front_border-front.result c.last_touched-last.result.end f b c.lay_out_joined.new.engine NoMemory short
-    allowed c.lay_out_joined.ensures.rules counts))
+    c.front_border-front.result c.last_touched-last.result.end f b c.lay_out_joined-laid.new.engine NoMemory short
+    allowed c.lay_out_joined-laid.ensures.rules counts))
 
 pub returns-clause-memory : goal.returns-clause-memory
 returns-clause-memory g c wants =

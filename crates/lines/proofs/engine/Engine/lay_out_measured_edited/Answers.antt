@@ -12,8 +12,8 @@ pub put_all_widths-requires-clause-lines : goal.put_all_widths-requires-clause-l
 put_all_widths-requires-clause-lines c =
     subst (λ (f : Filled). FollowFrom 0 f.lines) (sym (c.of-lines.ensures ∙ filled_as _ _ _ _ c.in_ok-base.ensures.layout.lines c.in_ok-base.ensures.layout.lines_len)) (lines_follow _ c.args.width c.deref-2.result.now)
 
-pub invariant_of-result : goal.invariant_of-result
-invariant_of-result c =
+pub invariant_of-laid : goal.invariant_of-laid
+invariant_of-laid c =
     let text = c.args.text.items in
     let sizes = c.in_ok-sizes.sizes in
     let put = c.put_all_widths.ensures in

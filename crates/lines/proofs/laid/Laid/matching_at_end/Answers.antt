@@ -1,10 +1,10 @@
 use Rattle.std.proofs.Common.{◌≡◌, ◌-◌, ◌∙◌, true, true≢false, length, drop, subst, sym, arith}
 use Rattle.lines.specs.Layouts.{visuals}
-use Rattle.lines.proofs.MatchingLemmas.{end_init, end_more, length-visuals, read_as, read_by}
+use Rattle.lines.proofs.MatchingLemmas.{end_more, length-visuals, read_as, read_by}
 use Rattle.lines.proofs.laid.Laid.matching_at_end.Goals as goal
 
 pub loop-k-init : goal.loop-k-init
-loop-k-init c = end_init (visuals c.args.self.now) (visuals c.args.other.now)
+loop-k-init c = c.requires.same_back
 
 pub loop-k-preserved : goal.loop-k-preserved
 loop-k-preserved c =

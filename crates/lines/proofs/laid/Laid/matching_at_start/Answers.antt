@@ -3,6 +3,9 @@ use Rattle.lines.specs.Layouts.{visuals}
 use Rattle.lines.proofs.MatchingLemmas.{length-visuals, start_more}
 use Rattle.lines.proofs.laid.Laid.matching_at_start.Goals as goal
 
+pub loop-k-init : goal.loop-k-init
+loop-k-init c = c.requires.same_front
+
 pub loop-k-preserved : goal.loop-k-preserved
 loop-k-preserved c =
     let x = length-visuals c.args.self.now in

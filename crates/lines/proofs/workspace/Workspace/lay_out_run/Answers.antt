@@ -50,7 +50,7 @@ returns-clause-layout c =
     let theorem = c.doubling_keeps_levels.ensures in
     let as_many : length (marks_of rules.tables.now rules.options.whole_numbers laid.text) ≡ length laid.text =
     sym (ap (λ (t : List ℕ). length (marks_of rules.tables.now rules.options.whole_numbers t)) c.text.ensures) ∙ c.marks_are_as_many.ensures ∙ ap (λ (t : List ℕ). length t) c.text.ensures in
-    let found = c.in_ok-fill_edited.ensures in
+    let found = c.in_ok-shared.ensures in
     record {
       base_is = same_base by width laid is text run c.requires.change.run c.base.result c.base.ensures theorem;
       levels = put_levels by width laid is text run c.requires.change.run c.levels.result.now c.put_levels.new.list.items c.levels.ensures.levels c.levels.ensures.len c.in_ok-put_levels.ensures theorem;
