@@ -73,7 +73,7 @@ abbrev ahead : Agreement → Option ℕ → List Joiner → ℕ → Bool
 ahead by level rest n =
     agree by (record { joining = NonJoining; level = level } ∷ take (suc n) rest) && list_all is_transparent (take n rest) && joins_before (joiner_at rest n)
 
-least_none : (p : ℕ → Bool) (low count : ℕ) → ((m : ℕ) → low ≤ m → m < low + count → p m ≡ false) → least p low count ≡ None
+pub least_none : (p : ℕ → Bool) (low count : ℕ) → ((m : ℕ) → low ≤ m → m < low + count → p m ≡ false) → least p low count ≡ None
 least_none p low zero fails = refl
 least_none p low (suc count) fails =
     cond-false (p low) (Some low) (least p (suc low) count) (fails low (omega arith) (omega arith))
@@ -207,3 +207,10 @@ module _ (by : Agreement) (text : List Joiner) (a : ℕ) (within : a < length te
       sym
       (ap (least (joins by text a) (a + 1)) others_are
       ∙ found by first.level (a + 1) others (joins by text a) (λ n more. joins_is n more ∙ ap (λ b. b && ahead by first.level others n) goes))
+
+  pub next_from : cond (joins_after first) (joined_in by first.level (a + 1) others) None ≡ next_joined by text a
+  next_from =
+      elim (cases_Bool (joins_after first)) [
+        | inl goes ↦ cond-true (joins_after first) (joined_in by first.level (a + 1) others) None goes ∙ next_is goes
+        | inr ends ↦ cond-false (joins_after first) (joined_in by first.level (a + 1) others) None ends ∙ sym (next_none ends)
+      ]

@@ -1,4 +1,5 @@
 mod InsertionLemmas
 mod JoinLemmas
 mod PairLemmas
+mod ShapingLemmas
 mod WorkedRows

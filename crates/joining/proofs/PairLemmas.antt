@@ -24,7 +24,7 @@ all_at p (x ∷ xs) (suc i) d all within = all_at p xs i d (and_parts (p x) (lis
 
 -- ---- transparent characters join nothing
 
-none_joins : (rtl : Bool) (t : JoiningType) → transparent t ≡ true → (cond rtl (joins_right t) (joins_left t) ≡ false) × (cond rtl (joins_left t) (joins_right t) ≡ false)
+pub none_joins : (rtl : Bool) (t : JoiningType) → transparent t ≡ true → (cond rtl (joins_right t) (joins_left t) ≡ false) × (cond rtl (joins_left t) (joins_right t) ≡ false)
 none_joins true Transparent is = (refl, refl)
 none_joins false Transparent is = (refl, refl)
 none_joins rtl DualJoining is = absurd (cc)
@@ -33,10 +33,10 @@ none_joins rtl LeftJoining is = absurd (cc)
 none_joins rtl RightJoining is = absurd (cc)
 none_joins rtl NonJoining is = absurd (cc)
 
-not_before : (c : Joiner) → is_transparent c ≡ true → joins_before c ≡ true → ⊥
+pub not_before : (c : Joiner) → is_transparent c ≡ true → joins_before c ≡ true → ⊥
 not_before c clear joins = both_ways (joins_before c) (none_joins (is_rtl c.level) c.joining clear).0 joins
 
-not_after : (c : Joiner) → is_transparent c ≡ true → joins_after c ≡ true → ⊥
+pub not_after : (c : Joiner) → is_transparent c ≡ true → joins_after c ≡ true → ⊥
 not_after c clear joins = both_ways (joins_after c) (none_joins (is_rtl c.level) c.joining clear).1 joins
 
 one_side : (rtl left right : Bool) → cond rtl left right ≡ true → (left || right) ≡ true
@@ -48,14 +48,14 @@ one_side false left false is = absurd (cc)
 
 -- ---- what a join says
 
-record Facts (by : Agreement) (text : List Joiner) (a b : ℕ) : Type 0 where
-  order : a < b
-  within : b < length text
-  after : joins_after (joiner_at text a) ≡ true
-  before : joins_before (joiner_at text b) ≡ true
-  clear : list_all is_transparent (slice_range text (a + 1) b) ≡ true
+pub record Facts (by : Agreement) (text : List Joiner) (a b : ℕ) : Type 0 where
+  pub order : a < b
+  pub within : b < length text
+  pub after : joins_after (joiner_at text a) ≡ true
+  pub before : joins_before (joiner_at text b) ≡ true
+  pub clear : list_all is_transparent (slice_range text (a + 1) b) ≡ true
 
-facts : (by : Agreement) (text : List Joiner) (a b : ℕ) → joins by text a b ≡ true → Facts by text a b
+pub facts : (by : Agreement) (text : List Joiner) (a b : ℕ) → joins by text a b ≡ true → Facts by text a b
 unfolding joins
 facts by text a b is =
     let clear = list_all is_transparent (slice_range text (a + 1) b) in
@@ -67,7 +67,7 @@ facts by text a b is =
     let one = and_parts (nat_lt a b) (nat_lt b (length text)) two.0 in
     record { order = ltb-true a b one.0; within = ltb-true b (length text) one.1; after = two.1; before = three.1; clear = four.1 }
 
-between : (by : Agreement) (text : List Joiner) (a b m : ℕ) → Facts by text a b → a < m → m < b → is_transparent (joiner_at text m) ≡ true
+pub between : (by : Agreement) (text : List Joiner) (a b m : ℕ) → Facts by text a b → a < m → m < b → is_transparent (joiner_at text m) ≡ true
 between by text a b m f from to =
     let n : ℕ = b - (a + 1) in
     let i : ℕ = m - (a + 1) in
@@ -79,7 +79,7 @@ between by text a b m f from to =
     ap is_transparent (sym (get_or-take n (drop (a + 1) text) i d (omega arith) ∙ get_or-drop (a + 1) text i d ∙ ap (λ j. get_or text j d) past))
     ∙ all_at is_transparent (take n (drop (a + 1) text)) i d f.clear size
 
-least_found : (p : ℕ → Bool) (low count k : ℕ) → low ≤ k → k < low + count → p k ≡ true → ((m : ℕ) → low ≤ m → m < k → p m ≡ false) → least p low count ≡ Some k
+pub least_found : (p : ℕ → Bool) (low count k : ℕ) → low ≤ k → k < low + count → p k ≡ true → ((m : ℕ) → low ≤ m → m < k → p m ≡ false) → least p low count ≡ Some k
 least_found p low zero k from to here before = absurd (omega arith)
 least_found p low (suc count) k from to here before =
     elim (cases_lt low k) [

@@ -38,3 +38,7 @@ joins by text a b =
 -- the index of the character that joins the one at `a`, of those after it
 unfoldable pub next_joined : Agreement → List Joiner → ℕ → Option ℕ
 next_joined by text a = least (joins by text a) (a + 1) (length text - (a + 1))
+
+-- the index of the character that joins the one at `b`, of those before it
+unfoldable pub previous_joined : Agreement → List Joiner → ℕ → Option ℕ
+previous_joined by text b = least (λ a. joins by text a b) 0 b

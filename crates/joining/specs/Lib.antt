@@ -3,3 +3,5 @@ pub mod Joins
 pub mod Ligatures
 pub mod Pairs
 pub mod Forms
+pub mod Presentation
+pub mod Shaping

@@ -6,7 +6,7 @@ use crate::joiner::{Agreement, Joiner, Joiners};
 
 // Returns whether a character may follow characters of a level: it has the same level, or one of the two is
 // `None`.
-fn agrees(level: Option<u8>, next: Option<u8>) -> bool
+pub(crate) fn agrees(level: Option<u8>, next: Option<u8>) -> bool
     ensures { result ≡ agrees level next }
 {
     match level {
@@ -19,7 +19,7 @@ fn agrees(level: Option<u8>, next: Option<u8>) -> bool
 }
 
 // Returns the level of the characters up to and including one that agrees with those before it.
-fn level_after(by: Agreement, level: Option<u8>, next: Option<u8>) -> Option<u8>
+pub(crate) fn level_after(by: Agreement, level: Option<u8>, next: Option<u8>) -> Option<u8>
     ensures { result ≡ level_after by level next }
 {
     match by {

@@ -24,10 +24,14 @@ mod joiner;
 mod joins;
 mod ligature;
 mod pairs;
+mod presentation;
+mod shaping;
 
 pub use form::Form;
 pub use joiner::{Agreement, Joiner, Joiners, ListedJoiners};
 pub use joins::next_joined;
 pub use ligature::lam_alef;
 pub use pairs::{joins_are_mutual, only_joining_types_join, transparent_characters_change_nothing};
+pub use presentation::{Letter, LetterForms, ListedForms, PresentationForms};
+pub use shaping::join_letters;
 pub use ucd_bidi::JoiningType;
