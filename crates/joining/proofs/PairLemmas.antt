@@ -12,7 +12,7 @@ use Rattle.joining.specs.Pairs.{JoinsAreMutual, OnlyJoiningTypesJoin}
 use Rattle.joining.specs.declared.joiner.Agreement.{Agreement}
 use Rattle.joining.specs.declared.joiner.Joiner.{Joiner}
 
-and_parts : (a b : Bool) → (a && b) ≡ true → (a ≡ true) × (b ≡ true)
+pub and_parts : (a b : Bool) → (a && b) ≡ true → (a ≡ true) × (b ≡ true)
 and_parts true true is = (refl, refl)
 and_parts true false is = absurd (cc)
 and_parts false b is = absurd (cc)
@@ -88,7 +88,7 @@ least_found p low (suc count) k from to here before =
       | inr more ↦ let same : low ≡ k = omega arith in cond-true (p low) (Some low) (least p (suc low) count) (ap p same ∙ here) ∙ ap Some same
     ]
 
-least_holds : (p : ℕ → Bool) (low count k : ℕ) → least p low count ≡ Some k → p k ≡ true
+pub least_holds : (p : ℕ → Bool) (low count k : ℕ) → least p low count ≡ Some k → p k ≡ true
 least_holds p low zero k is = absurd (cc)
 least_holds p low (suc count) k is =
     elim (cases_Bool (p low)) [

@@ -15,7 +15,7 @@ use Rattle.joining.specs.declared.joiner.Agreement.TheVariants.{All}
 use Rattle.joining.specs.declared.joiner.Joiner.{Joiner}
 use Rattle.joining.specs.declared.presentation.PresentationForms.{PresentationForms}
 use Rattle.joining.proofs.JoinLemmas.{least_none, next_none}
-use Rattle.joining.proofs.PairLemmas.{Facts, between, facts, least_found, mutual_joins, none_joins, not_after, not_before}
+use Rattle.joining.proofs.PairLemmas.{Facts, between, facts, least_found, least_holds, mutual_joins, none_joins, not_after, not_before}
 
 -- ---- the character before another that joins it
 
@@ -28,6 +28,10 @@ previous_is by text a b is =
       | inl other ↦ let same : m ≡ a = mutual_joins.before by text a b m is other in absurd (omega (arith, same, to))
       | inr none ↦ none
     ])
+
+pub previous_joins : (by : Agreement) (text : List Joiner) (a b : ℕ) → previous_joined by text b ≡ Some a → joins by text a b ≡ true
+unfolding previous_joined
+previous_joins by text a b is = least_holds (λ m. joins by text m b) 0 b a is
 
 pub previous_none : (by : Agreement) (text : List Joiner) (b : ℕ) → ((a : ℕ) → a < b → joins by text a b ≡ true → ⊥) → previous_joined by text b ≡ None
 unfolding previous_joined

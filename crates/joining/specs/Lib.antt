@@ -5,3 +5,4 @@ pub mod Pairs
 pub mod Forms
 pub mod Presentation
 pub mod Shaping
+pub mod Changes

@@ -1,5 +1,6 @@
 -- Facts that follow from the definition of joins, for any text and either condition on levels.
-use Rattle.std.specs.Prelude.{◌≡◌, ◌⊎◌, ◌<◌, ℕ, ◌+◌, ◌-◌, Bool, true, ◌||◌, List, ◌∷◌, ◌++◌, length, nat_lt, option_map, Some, None, if◌then◌else◌}
+use Rattle.std.specs.Prelude.{◌≡◌, ◌⊎◌, ◌<◌, ◌≤◌, ℕ, ◌+◌, ◌-◌, Bool, true, ◌||◌, List, ◌∷◌, ◌++◌, length, nat_lt, option_map, Some, None, if◌then◌else◌}
+use Rattle.std.specs.List.{slice_range}
 use Rattle.joining.specs.Joiners.{is_transparent, joiner_at, joins_left, joins_right}
 use Rattle.joining.specs.Joins.{joins, next_joined}
 use Rattle.joining.specs.declared.joiner.Agreement.{Agreement}
@@ -30,3 +31,9 @@ TransparentCharactersChangeNothing =
     (by : Agreement) (front back : List Joiner) (c : Joiner) (a : ℕ) → a < length (front ++ back) → is_transparent c ≡ true
     → (c.level ≡ None) ⊎ (c.level ≡ (joiner_at front (length front - 1)).level)
     → next_joined by (front ++ c ∷ back) (moved (length front) a) ≡ option_map (moved (length front)) (next_joined by (front ++ back) a)
+
+-- Two characters of a slice, as of a line of a paragraph, join if and only if they join in the whole text.
+abbrev pub SlicesJoinAlike : Type 0
+SlicesJoinAlike =
+    (by : Agreement) (text : List Joiner) (from to a b : ℕ) → to ≤ length text → from + b < to
+    → joins by (slice_range text from to) a b ≡ joins by text (from + a) (from + b)

@@ -19,6 +19,7 @@
 //! The property Joining_Type comes from the kit's crate `ucd_bidi`.
 #![tactic(auto)]
 
+mod changes;
 mod form;
 mod joiner;
 mod joins;
@@ -27,11 +28,15 @@ mod pairs;
 mod presentation;
 mod shaping;
 
+pub use changes::{hidden_lams_have_ligatures, only_letters_with_forms_change};
 pub use form::Form;
 pub use joiner::{Agreement, Joiner, Joiners, ListedJoiners};
 pub use joins::next_joined;
 pub use ligature::lam_alef;
-pub use pairs::{joins_are_mutual, only_joining_types_join, transparent_characters_change_nothing};
+pub use pairs::{
+    joins_are_mutual, only_joining_types_join, slices_join_alike,
+    transparent_characters_change_nothing,
+};
 pub use presentation::{Letter, LetterForms, ListedForms, PresentationForms};
 pub use shaping::join_letters;
 pub use ucd_bidi::JoiningType;

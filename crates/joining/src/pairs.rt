@@ -1,6 +1,6 @@
 //! Theorems about joins.
 ghost use Rattle.joining.specs.Pairs.{JoinsAreMutual, OnlyJoiningTypesJoin};
-ghost use Rattle.joining.specs.Pairs.{TransparentCharactersChangeNothing};
+ghost use Rattle.joining.specs.Pairs.{SlicesJoinAlike, TransparentCharactersChangeNothing};
 
 /// States, as a theorem, that a character joins at most one after it, and at most one before it. Costs nothing
 /// at run time.
@@ -17,4 +17,10 @@ pub fn only_joining_types_join()
 /// removes it, or if it has the level of the character before it. Costs nothing at run time.
 pub fn transparent_characters_change_nothing()
     ensures { TransparentCharactersChangeNothing }
+{}
+
+/// States, as a theorem, that two characters of a slice, as of a line of a paragraph, join if and only if they join
+/// in the whole text. Costs nothing at run time.
+pub fn slices_join_alike()
+    ensures { SlicesJoinAlike }
 {}
