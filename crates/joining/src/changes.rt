@@ -1,8 +1,8 @@
 //! Theorems about what joining changes in a line.
 ghost use Rattle.joining.specs.Changes.{HiddenLamsHaveLigatures, OnlyLettersWithFormsChange};
 
-/// States, as a theorem, that joining changes only letters of joining types R and D that have presentation forms.
-/// Costs nothing at run time.
+/// States, as a theorem, that joining changes only letters of joining types R and D that have presentation
+/// forms. Costs nothing at run time.
 pub fn only_letters_with_forms_change()
     ensures { OnlyLettersWithFormsChange }
 {}

@@ -19,8 +19,8 @@ pub fn transparent_characters_change_nothing()
     ensures { TransparentCharactersChangeNothing }
 {}
 
-/// States, as a theorem, that two characters of a slice, as of a line of a paragraph, join if and only if they join
-/// in the whole text. Costs nothing at run time.
+/// States, as a theorem, that two characters of a slice, as of a line of a paragraph, join if and only if they
+/// join in the whole text. Costs nothing at run time.
 pub fn slices_join_alike()
     ensures { SlicesJoinAlike }
 {}

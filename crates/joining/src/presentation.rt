@@ -94,8 +94,8 @@ fn form_of(c: Joiner, before: bool, after: bool) -> Form
     }
 }
 
-// Returns the presentation form of a character, given whether it joins one before it and one after it, or `None`
-// if it has none.
+// Returns the presentation form of a character, given whether it joins one before it and one after it. Returns
+// `None` if it has none.
 pub(crate) fn presentation_form<F: LetterForms>(
     forms: &F,
     c: char,

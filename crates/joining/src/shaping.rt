@@ -1,5 +1,6 @@
 //! Replaces the letters of a line by their presentation forms and ligatures.
-ghost use Rattle.std.specs.Prelude.{◌≡◌, ◌<◌, ◌≤◌, ◌&&◌, ℕ, Bool, true, false, length, slice_index, slice_index_or, Some, None, if◌then◌else◌};
+ghost use Rattle.std.specs.Prelude.{◌≡◌, ◌<◌, ◌≤◌, ◌&&◌, ℕ, true, false, if◌then◌else◌};
+ghost use Rattle.std.specs.Prelude.{length, slice_index, slice_index_or, Some, None};
 ghost use Rattle.joining.specs.Joiners.{is_transparent, joiner_at};
 ghost use Rattle.joining.specs.Joins.{next_joined};
 ghost use Rattle.joining.specs.Shaping.{hidden_characters, is_right_joining, ligature_of, ligature_with};
@@ -12,7 +13,7 @@ use crate::ligature::lam_alef;
 use crate::presentation::{LetterForms, presentation_form};
 use ucd_bidi::JoiningType;
 
-// The first character after another that is not transparent, by its index, and whether the two join. If there is
+// The index of the first character after another that is not transparent, and whether the two join. If there is
 // no such character, the index is the number of characters.
 #[derive(Clone, Copy)]
 struct Next {
@@ -92,7 +93,7 @@ fn ligature_with<F: LetterForms>(
     }
 }
 
-// Returns the ligature of the character at `at`, given its presentation form, with the next character, if the two
+// Returns the ligature of the character at `at`, given its presentation form, with the next character, if they
 // join.
 fn ligature_to<J: Joiners, F: LetterForms>(
     text: &J,
@@ -123,8 +124,8 @@ fn ligature_to<J: Joiners, F: LetterForms>(
     }
 }
 
-// Returns what is shown of a character, given its presentation form, and its ligatures with the characters before
-// and after it.
+// Returns what is shown of a character, given its presentation form, and its ligatures with the characters
+// before and after it.
 fn shown(c: char, form: Option<char>, before: Option<char>, after: Option<char>) -> char
     ensures { result ≡ shown c form before after }
 {
@@ -144,9 +145,11 @@ fn clear(hidden: &mut [bool])
     }
 }
 
-/// Replaces the characters of a line by those that it shows: letters by their presentation forms, and lams and
-/// alefs by ligatures. A ligature replaces its alef, and U+FEFF its lam. Stores in `hidden` which characters are
-/// such lams, which show nothing. Needs time proportional to the length of the line, and allocates nothing.
+/// Replaces the characters of a line by those that it shows. Letters become their presentation forms. At odd
+/// levels, a lam and an alef that it joins become a ligature, in place of the alef, and U+FEFF, in place of the
+/// lam. Stores in `hidden` which characters are such lams, which show nothing.
+///
+/// Needs time proportional to the length of the line, and allocates nothing.
 pub fn join_letters<J: Joiners, F: LetterForms>(
     text: &J,
     forms: &F,
