@@ -242,6 +242,14 @@ pub struct Edited<'a> {
     pub edit: Replacement,
 }
 
+/// The paragraphs that an edit makes. If it makes one of a laid-out one, `shared` are lines that are known to
+/// be the same in both.
+#[derive(Drop)]
+pub struct Relaid {
+    pub kept: Vec<Kept>,
+    pub shared: SharedLines,
+}
+
 // Lays out one paragraph that an edit has made of a laid-out one. Its text and advances move into the layout.
 // Stores in `shared` which lines are known to be those of the laid-out paragraph.
 fn lay_out_edited(
@@ -318,17 +326,15 @@ fn trim(list: Vec<char>) -> Vec<char>
 }
 
 // Lays out each paragraph of a nonempty text once. A text that is a single paragraph moves into the layout.
-// If an edit has made the text of a single paragraph, `edited` is that paragraph, and the function stores in
-// `shared` which lines are known to be the same in both.
+// If an edit has made the text of a single paragraph, `edited` is that paragraph.
 fn lay_out(
     alloc: Global,
     engine: &mut Engine,
-    shared: &mut SharedLines,
     edited: Option<Edited<'_>>,
     text: Vec<char>,
     advances: Vec<u32>,
     form: Form,
-) -> Result<Vec<Kept>, AllocError>
+) -> Result<Relaid, AllocError>
     requires some { 0 < length text.items }
     requires edited { BecomesBy (rules_of engine.old) form.width edited text.items }
     requires within { is_within_limit (cut_by (rules_of engine.old)) text.items ≡ true }
@@ -336,9 +342,9 @@ fn lay_out(
     requires each { AreForEach (given_if form.is_measured advances.items) text.items }
     requires room { room_refusal (given_if form.is_measured advances.items)
         (paragraphs (cut_by (rules_of engine.old)) text.items) ≡ None }
-    ensures ok { IfOk result (λ kept. kept.items ≡ layouts_of (with_advances (rules_of engine.old)
+    ensures ok { IfOk result (λ done. done.kept.items ≡ layouts_of (with_advances (rules_of engine.old)
         (given_if form.is_measured advances.items)) form.width text.items) }
-    ensures shared { IfOk result (λ kept. AreShared edited.entry kept.items shared.new) }
+    ensures shared { IfOk result (λ done. AreShared edited.entry done.kept.items done.shared) }
     ensures rules { SameRules engine.old engine.new }
     ensures counts { LaysOutAtMost (length text.items) engine.old engine.new }
 {
@@ -346,18 +352,22 @@ fn lay_out(
     paragraphs_are_pieces();
     match engine.first_cut(&text) {
         Some(_) => {
-            *shared = SharedLines::NONE;
             let part = Part {
                 text: &text,
                 advances: &advances,
             };
-            lay_out_each(alloc, engine, &part, form)
+            let kept = lay_out_each(alloc, engine, &part, form)?;
+            Ok(Relaid {
+                kept,
+                shared: SharedLines::NONE,
+            })
         }
         None => {
             let mut kept = Vec::with_capacity(alloc, 1)?;
-            let text = trim(text);
-            kept.push(lay_out_single(alloc, engine, shared, edited, text, advances, form)?)?;
-            Ok(kept)
+            let (text, mut shared) = (trim(text), SharedLines::NONE);
+            let one = lay_out_single(alloc, engine, &mut shared, edited, text, advances, form)?;
+            kept.push(one)?;
+            Ok(Relaid { kept, shared })
         }
     }
 }
@@ -425,13 +435,12 @@ fn lay_out_each(
 fn lay_out_parts(
     alloc: Global,
     engine: &mut Engine,
-    shared: &mut SharedLines,
     edited: Option<Edited<'_>>,
     front: &Part<'_>,
     piece: &str,
     back: &Part<'_>,
     form: Form,
-) -> Result<Vec<Kept>, AllocError>
+) -> Result<Relaid, AllocError>
     requires some { 0 < length (joined_text front.now piece.now back.now) }
     requires edited { BecomesBy (rules_of engine.old) form.width edited
         (joined_text front.now piece.now back.now) }
@@ -441,10 +450,10 @@ fn lay_out_parts(
     requires allowed { paragraphs_refusal (cut_by (rules_of engine.old))
         (joined_advances form.is_measured front.now piece.now back.now)
         (joined_text front.now piece.now back.now) ≡ None }
-    ensures ok { IfOk result (λ kept. kept.items ≡ layouts_of (with_advances (rules_of engine.old)
+    ensures ok { IfOk result (λ done. done.kept.items ≡ layouts_of (with_advances (rules_of engine.old)
         (joined_advances form.is_measured front.now piece.now back.now)) form.width
         (joined_text front.now piece.now back.now)) }
-    ensures shared { IfOk result (λ kept. AreShared edited.entry kept.items shared.new) }
+    ensures shared { IfOk result (λ done. AreShared edited.entry done.kept.items done.shared) }
     ensures rules { SameRules engine.old engine.new }
     ensures counts { LaysOutAtMost (length (joined_text front.now piece.now back.now))
         engine.old engine.new }
@@ -452,36 +461,34 @@ fn lay_out_parts(
     let text = joined(alloc, engine, front.text, piece, back.text)?;
     let (is_measured, len) = (form.is_measured, text.len());
     let advances = joined_advances(alloc, is_measured, front.advances, len, back.advances)?;
-    lay_out(alloc, engine, shared, edited, text, advances, form)
+    lay_out(alloc, engine, edited, text, advances, form)
 }
 
 /// Lays out the paragraphs of the joined text, in which inserted characters have advance 0. Fails with
 /// `ParagraphTooLong`, without allocating, if a paragraph is too long or the sum of its advances is too
 /// large. Fails with `NoMemory` if an allocation fails. If an edit has made the text of a single paragraph,
-/// `edited` is that paragraph, and the function stores in `shared` which lines are known to be the same in
-/// both.
+/// `edited` is that paragraph.
 pub fn lay_out_joined(
     alloc: Global,
     engine: &mut Engine,
-    shared: &mut SharedLines,
     edited: Option<Edited<'_>>,
     front: &Part<'_>,
     piece: &str,
     back: &Part<'_>,
     form: Form,
-) -> Result<Vec<Kept>, EditFault>
+) -> Result<Relaid, EditFault>
     requires edited { BecomesBy (rules_of engine.old) form.width edited
         (joined_text front.now piece.now back.now) }
     requires width { 0 < form.width }
     requires front { AreForEach (given_if form.is_measured front.now.advances.now) front.now.text.now }
     requires back { AreForEach (given_if form.is_measured back.now.advances.now) back.now.text.now }
-    ensures allowed { IfOk result (λ kept. paragraphs_refusal (cut_by (rules_of engine.old))
+    ensures allowed { IfOk result (λ done. paragraphs_refusal (cut_by (rules_of engine.old))
         (joined_advances form.is_measured front.now piece.now back.now)
         (joined_text front.now piece.now back.now) ≡ None) }
-    ensures ok { IfOk result (λ kept. kept.items ≡ layouts_of (with_advances (rules_of engine.old)
+    ensures ok { IfOk result (λ done. done.kept.items ≡ layouts_of (with_advances (rules_of engine.old)
         (joined_advances form.is_measured front.now piece.now back.now)) form.width
         (joined_text front.now piece.now back.now)) }
-    ensures shared { IfOk result (λ kept. AreShared edited.entry kept.items shared.new) }
+    ensures shared { IfOk result (λ done. AreShared edited.entry done.kept.items done.shared) }
     ensures err { IfErr result (IsAnswerFor (paragraphs_refusal (cut_by (rules_of engine.old))
         (joined_advances form.is_measured front.now piece.now back.now)
         (joined_text front.now piece.now back.now))) }
@@ -499,11 +506,13 @@ pub fn lay_out_joined(
         return Err(EditFault::ParagraphTooLong);
     }
     if are_empty(front.text, piece, back.text) {
-        *shared = SharedLines::NONE;
-        return Ok(Vec::new(alloc));
+        return Ok(Relaid {
+            kept: Vec::new(alloc),
+            shared: SharedLines::NONE,
+        });
     }
-    match lay_out_parts(alloc, engine, shared, edited, front, piece, back, form) {
-        Ok(kept) => Ok(kept),
+    match lay_out_parts(alloc, engine, edited, front, piece, back, form) {
+        Ok(done) => Ok(done),
         Err(_) => Err(EditFault::NoMemory),
     }
 }

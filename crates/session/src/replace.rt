@@ -15,7 +15,7 @@ ghost use Rattle.session.specs.declared.edits.EditFault.TheVariants.{NoMemory};
 use crate::borders::{Border, back_part, front_border, front_part, last_touched};
 use crate::changed::{same_ends, without_same};
 use crate::edits::{ChangedLines, Damage, EditFault, TEXT_LIMIT, TextRange};
-use crate::joined::{Edited, Form, lay_out_joined};
+use crate::joined::{Edited, Form, Relaid, lay_out_joined};
 use crate::kept::Kept;
 use bidi::paragraphs_are_pieces;
 use lines::{Engine, Replacement, SharedLines, lines_are_few};
@@ -161,20 +161,11 @@ pub fn replace<S: ParagraphStore<Kept>>(
         back_part(last, end),
     );
     let edited = edited_paragraph(first, front, back, range, inserted);
-    let mut shared = SharedLines::NONE;
-    let laid = lay_out_joined(
-        alloc,
-        engine,
-        &mut shared,
-        edited,
-        &before,
-        piece,
-        &after,
-        form,
-    );
-    let new = match laid {
-        Ok(new) => new,
+    let Relaid { kept, shared } = match lay_out_joined(
+        alloc, engine, edited, &before, piece, &after, form,
+    ) {
+        Ok(done) => done,
         Err(fault) => return Err(fault),
     };
-    put(engine, store, changed, front, back, new, shared)
+    put(engine, store, changed, front, back, kept, shared)
 }

@@ -105,8 +105,14 @@ impl Engine {
         };
         let mut lists = LayoutBuffers::new(alloc);
         let change = RunChange { laid: old, run };
-        let (base, shared) =
-            self.fill_run(alloc, change, &text, Some(&advances), width, &mut lists)?;
+        let (base, shared) = self.fill_run(
+            alloc,
+            change,
+            &text,
+            Some(&advances),
+            width,
+            &mut lists,
+        )?;
         let tab_width = self.tab_width();
         let lines = Fill::of(lists.lines);
         let mut sizes = with_room(advances, tab_width)?;

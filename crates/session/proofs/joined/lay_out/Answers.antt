@@ -15,7 +15,7 @@ returns-in_ok-push-in-None-clause-ok c =
     let advances = given_if c.args.form.is_measured c.args.advances.items in
     let width = c.args.form.width in
     let whole : SplitsAt (cut_by by) text None = subst (λ t. SplitsAt (cut_by by) t None) c.deref.ensures.value c.in-None.ensures.paragraphs in
-    let one = c.in_ok-lay_out_single-in-None.ensures.ok ∙ ap (layout_of (with_advances by advances) width) c.trim-text.ensures
+    let one = c.in_ok-one-in-None.ensures.ok ∙ ap (layout_of (with_advances by advances) width) c.trim-text.ensures
     ∙ ap (λ (a : Option (List ℕ)). layout_of (with_advances by a) width text) (sym (front_all text advances c.requires.each)) in
     layouts_last (with_advances by None) width (layouts_of (with_advances by advances) width text) text advances c.in_ok-kept-in-None.kept.items
     (ap (λ kept. kept ++ layouts_of (with_advances by advances) width text) c.in_ok-kept-in-None.ensures.items) _ _ (whole c.requires.some) one c.in_ok-push-in-None.ensures.items

@@ -70,8 +70,8 @@ last_touched-last-requires-clause-to g c =
     let within : c.args.range.pos + c.args.range.count ≤ length (text_of kept) = omega (arith, size) in
     within
 
-pub lay_out_joined-laid-requires-clause-front : goal.lay_out_joined-laid-requires-clause-front
-lay_out_joined-laid-requires-clause-front g c =
+pub lay_out_joined-requires-clause-front : goal.lay_out_joined-requires-clause-front
+lay_out_joined-requires-clause-front g c =
     let kept = g.S.ParagraphStore.items c.args.store.now in
     let piece = chars c.args.piece.now in
     let size : c.total_chars-len.result ≡ length (text_of kept) = c.total_chars-len.ensures ∙ sym (length-text kept) in
@@ -82,8 +82,8 @@ lay_out_joined-laid-requires-clause-front g c =
     subst (λ (t : List ℕ). AreForEach (given_if c.args.form.is_measured c.front_part-before.result.advances.now) t) (sym (c.front_part-before.ensures.text kept c.get-first.ensures))
     (subst (λ (l : List ℕ). AreForEach (given_if c.args.form.is_measured l) (front_of (pars_of kept) c.front_border-front.result c.args.range.pos)) (sym (c.front_part-before.ensures.advances kept c.get-first.ensures)) each)
 
-pub lay_out_joined-laid-requires-clause-back : goal.lay_out_joined-laid-requires-clause-back
-lay_out_joined-laid-requires-clause-back g c =
+pub lay_out_joined-requires-clause-back : goal.lay_out_joined-requires-clause-back
+lay_out_joined-requires-clause-back g c =
     let kept = g.S.ParagraphStore.items c.args.store.now in
     let piece = chars c.args.piece.now in
     let size : c.total_chars-len.result ≡ length (text_of kept) = c.total_chars-len.ensures ∙ sym (length-text kept) in
@@ -94,8 +94,8 @@ lay_out_joined-laid-requires-clause-back g c =
     subst (λ (t : List ℕ). AreForEach (given_if c.args.form.is_measured c.back_part-after.result.advances.now) t) (sym (c.back_part-after.ensures.text kept c.last_touched-last.ensures.kept _ refl))
     (subst (λ (l : List ℕ). AreForEach (given_if c.args.form.is_measured l) (back_of (pars_of kept) c.last_touched-last.result.end (c.args.range.pos + c.args.range.count))) (sym (c.back_part-after.ensures.advances kept c.last_touched-last.ensures.kept _ refl)) each)
 
-pub lay_out_joined-laid-requires-clause-edited : goal.lay_out_joined-laid-requires-clause-edited
-lay_out_joined-laid-requires-clause-edited g c =
+pub lay_out_joined-requires-clause-edited : goal.lay_out_joined-requires-clause-edited
+lay_out_joined-requires-clause-edited g c =
     let kept = g.S.ParagraphStore.items c.args.store.now in
     let piece = chars c.args.piece.now in
     let size : c.total_chars-len.result ≡ length (text_of kept) = c.total_chars-len.ensures ∙ sym (length-text kept) in
@@ -122,10 +122,10 @@ returns-in-Err-clause-err g c =
     let few = c.lines_are_few.ensures in
     let by = rules_of c.args.engine.now in
     let answer = subst (λ o. IsAnswerFor o c.in-Err.fault) (ap₂ (λ (a : Option (List ℕ)) (t : List ℕ). paragraphs_refusal (cut_by by) a t) given parts) c.in-Err.ensures.err in
-    let counts = subst (λ t. IsCountedFor c.in-Err.fault (LaysOutAtMost (length t)) c.args.engine.now c.lay_out_joined-laid.new.engine) parts c.in-Err.ensures.refused in
+    let counts = subst (λ t. IsCountedFor c.in-Err.fault (LaysOutAtMost (length t)) c.args.engine.now c.lay_out_joined.new.engine) parts c.in-Err.ensures.refused in
     EditsNot-by_region law few c.args.engine.now c.args.form.width c.args.form.is_measured kept c.requires c.args.range.pos c.args.range.count piece within
-    c.front_border-front.result c.last_touched-last.result.end f b c.lay_out_joined-laid.new.engine c.in-Err.fault short answer
-    c.lay_out_joined-laid.ensures.rules counts
+    c.front_border-front.result c.last_touched-last.result.end f b c.lay_out_joined.new.engine c.in-Err.fault short answer
+    c.lay_out_joined.ensures.rules counts
 
 pub returns-in-Err-clause-memory : goal.returns-in-Err-clause-memory
 returns-in-Err-clause-memory g c wants =
@@ -160,12 +160,12 @@ put-requires-clause-chars_fit g c =
     let law = c.paragraphs_are_pieces.ensures in
     let few = c.lines_are_few.ensures in
     let laid = c.in-Ok.ensures.ok ∙ ap₂ (λ (a : Option (List ℕ)) (t : List ℕ). layouts_of (with_advances (rules_of c.args.engine.now) a) c.args.form.width t) given parts in
-    chars_fit law few c.args.engine.now c.args.form.width c.args.form.is_measured kept c.requires c.args.range.pos c.args.range.count piece within c.front_border-front.result c.last_touched-last.result.end f b c.in-Ok.new.items laid short
+    chars_fit law few c.args.engine.now c.args.form.width c.args.form.is_measured kept c.requires c.args.range.pos c.args.range.count piece within c.front_border-front.result c.last_touched-last.result.end f b c.in-Ok.done.kept.items laid short
 
 pub put-requires-clause-shared : goal.put-requires-clause-shared
 put-requires-clause-shared g c =
     let kept = g.S.ParagraphStore.items c.args.store.now in
-    known_lines kept _ c.front_border-front.result c.last_touched-last.result.end c.args.range c.count-inserted.result c.edited_paragraph-edited.result c.in-Ok.new.items c.lay_out_joined-laid.new.shared
+    known_lines kept _ c.front_border-front.result c.last_touched-last.result.end c.args.range c.count-inserted.result c.edited_paragraph-edited.result c.in-Ok.done.kept.items c.in-Ok.done.shared
     c.get-first.ensures c.edited_paragraph-edited.ensures c.in-Ok.ensures.shared
 
 pub put-requires-clause-bytes_fit : goal.put-requires-clause-bytes_fit
@@ -183,7 +183,7 @@ put-requires-clause-bytes_fit g c =
     let law = c.paragraphs_are_pieces.ensures in
     let few = c.lines_are_few.ensures in
     let laid = c.in-Ok.ensures.ok ∙ ap₂ (λ (a : Option (List ℕ)) (t : List ℕ). layouts_of (with_advances (rules_of c.args.engine.now) a) c.args.form.width t) given parts in
-    units_fit law few c.args.engine.now c.args.form.width c.args.form.is_measured kept c.requires c.args.range.pos c.args.range.count piece within c.front_border-front.result c.last_touched-last.result.end f b c.in-Ok.new.items laid short len_utf8 utf8_few
+    units_fit law few c.args.engine.now c.args.form.width c.args.form.is_measured kept c.requires c.args.range.pos c.args.range.count piece within c.front_border-front.result c.last_touched-last.result.end f b c.in-Ok.done.kept.items laid short len_utf8 utf8_few
 
 pub put-requires-clause-utf16_fit : goal.put-requires-clause-utf16_fit
 put-requires-clause-utf16_fit g c =
@@ -200,7 +200,7 @@ put-requires-clause-utf16_fit g c =
     let law = c.paragraphs_are_pieces.ensures in
     let few = c.lines_are_few.ensures in
     let laid = c.in-Ok.ensures.ok ∙ ap₂ (λ (a : Option (List ℕ)) (t : List ℕ). layouts_of (with_advances (rules_of c.args.engine.now) a) c.args.form.width t) given parts in
-    units_fit law few c.args.engine.now c.args.form.width c.args.form.is_measured kept c.requires c.args.range.pos c.args.range.count piece within c.front_border-front.result c.last_touched-last.result.end f b c.in-Ok.new.items laid short len_utf16 utf16_few
+    units_fit law few c.args.engine.now c.args.form.width c.args.form.is_measured kept c.requires c.args.range.pos c.args.range.count piece within c.front_border-front.result c.last_touched-last.result.end f b c.in-Ok.done.kept.items laid short len_utf16 utf16_few
 
 pub put-requires-clause-lines_fit : goal.put-requires-clause-lines_fit
 put-requires-clause-lines_fit g c =
@@ -217,7 +217,7 @@ put-requires-clause-lines_fit g c =
     let law = c.paragraphs_are_pieces.ensures in
     let few = c.lines_are_few.ensures in
     let laid = c.in-Ok.ensures.ok ∙ ap₂ (λ (a : Option (List ℕ)) (t : List ℕ). layouts_of (with_advances (rules_of c.args.engine.now) a) c.args.form.width t) given parts in
-    lines_fit law few c.args.engine.now c.args.form.width c.args.form.is_measured kept c.requires c.args.range.pos c.args.range.count piece within c.front_border-front.result c.last_touched-last.result.end f b c.in-Ok.new.items laid short
+    lines_fit law few c.args.engine.now c.args.form.width c.args.form.is_measured kept c.requires c.args.range.pos c.args.range.count piece within c.front_border-front.result c.last_touched-last.result.end f b c.in-Ok.done.kept.items laid short
 
 pub returns-clause-ok : goal.returns-clause-ok
 returns-clause-ok g c =
@@ -237,13 +237,13 @@ returns-clause-ok g c =
     let old : SessionState = state_of c.args.engine.now c.args.form.width c.args.form.is_measured kept in
     let laid = c.in-Ok.ensures.ok ∙ ap₂ (λ (a : Option (List ℕ)) (t : List ℕ). layouts_of (with_advances by a) c.args.form.width t) given parts in
     let allowed = sym (ap₂ (λ (a : Option (List ℕ)) (t : List ℕ). paragraphs_refusal (cut_by by) a t) given parts) ∙ c.in-Ok.ensures.allowed in
-    let counts = subst (λ t. LaysOutAtMost (length t) c.args.engine.now c.lay_out_joined-laid.new.engine) parts c.lay_out_joined-laid.ensures.counts in
+    let counts = subst (λ t. LaysOutAtMost (length t) c.args.engine.now c.lay_out_joined.new.engine) parts c.lay_out_joined.ensures.counts in
     rw c.put.ensures.engine (ends_ok (λ ks. Edits (replacing c.args.range.pos c.args.range.count piece) old
-    (state_of c.lay_out_joined-laid.new.engine c.args.form.width c.args.form.is_measured ks)) c.put.result _ _ _
+    (state_of c.lay_out_joined.new.engine c.args.form.width c.args.form.is_measured ks)) c.put.result _ _ _
     c.put.ensures.ok c.put.ensures.damage
     (Edits-after law few c.args.engine.now c.args.form.width c.args.form.is_measured kept c.requires c.args.range.pos c.args.range.count piece within
-    c.front_border-front.result c.last_touched-last.result.end f b c.in-Ok.new.items laid short c.lay_out_joined-laid.new.engine
-    allowed c.lay_out_joined-laid.ensures.rules counts))
+    c.front_border-front.result c.last_touched-last.result.end f b c.in-Ok.done.kept.items laid short c.lay_out_joined.new.engine
+    allowed c.lay_out_joined.ensures.rules counts))
 
 pub returns-clause-err : goal.returns-clause-err
 returns-clause-err g c =
@@ -262,13 +262,13 @@ returns-clause-err g c =
     let by = rules_of c.args.engine.now in
     let old : SessionState = state_of c.args.engine.now c.args.form.width c.args.form.is_measured kept in
     let allowed = sym (ap₂ (λ (a : Option (List ℕ)) (t : List ℕ). paragraphs_refusal (cut_by by) a t) given parts) ∙ c.in-Ok.ensures.allowed in
-    let counts = subst (λ t. LaysOutAtMost (length t) c.args.engine.now c.lay_out_joined-laid.new.engine) parts c.lay_out_joined-laid.ensures.counts in
+    let counts = subst (λ t. LaysOutAtMost (length t) c.args.engine.now c.lay_out_joined.new.engine) parts c.lay_out_joined.ensures.counts in
     rw c.put.ensures.engine (ends_err (λ ks. EditsNot (replacing c.args.range.pos c.args.range.count piece) old
-    (state_of c.lay_out_joined-laid.new.engine c.args.form.width c.args.form.is_measured ks)) c.put.result _ _
+    (state_of c.lay_out_joined.new.engine c.args.form.width c.args.form.is_measured ks)) c.put.result _ _
     c.put.ensures.err c.put.ensures.fault
     (EditsNot-by_region law few c.args.engine.now c.args.form.width c.args.form.is_measured kept c.requires c.args.range.pos c.args.range.count piece within
-    c.front_border-front.result c.last_touched-last.result.end f b c.lay_out_joined-laid.new.engine NoMemory short
-    allowed c.lay_out_joined-laid.ensures.rules counts))
+    c.front_border-front.result c.last_touched-last.result.end f b c.lay_out_joined.new.engine NoMemory short
+    allowed c.lay_out_joined.ensures.rules counts))
 
 pub returns-clause-memory : goal.returns-clause-memory
 returns-clause-memory g c wants =
@@ -276,4 +276,4 @@ returns-clause-memory g c wants =
     let piece = chars c.args.piece.now in
     let some = of_err c.put.result NoMemory c.put.ensures.memory wants in
     some_put c.args.engine.now c.args.form.width c.args.form.is_measured kept c.requires c.front_part-before.result.text.now piece c.back_part-after.result.text.now _ _ _ _ (c.front_part-before.ensures.text kept c.get-first.ensures) (c.back_part-after.ensures.text kept c.last_touched-last.ensures.kept _ refl)
-    (with_advances (rules_of c.args.engine.now) _) c.front_border-front.result.index c.last_touched-last.result.end.index c.in-Ok.new.items c.last_touched-last.ensures.end.border_is.within c.in-Ok.ensures.ok some
+    (with_advances (rules_of c.args.engine.now) _) c.front_border-front.result.index c.last_touched-last.result.end.index c.in-Ok.done.kept.items c.last_touched-last.ensures.end.border_is.within c.in-Ok.ensures.ok some

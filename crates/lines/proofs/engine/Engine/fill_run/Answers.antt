@@ -19,7 +19,7 @@ pub returns-clause-shared : goal.returns-clause-shared
 returns-clause-shared c =
     let done = c.in_ok-done.done in
     subst (λ (rules : Rules). ShareEnds (visuals c.args.change.laid.now)
-        (visuals (layout_of (with_advances rules (option_map (λ list. list.now) c.args.advances)) c.args.width c.args.text.now)) done.1.front done.1.back)
+    (visuals (layout_of (with_advances rules (option_map (λ list. list.now) c.args.advances)) c.args.width c.args.text.now)) done.1.front done.1.back)
     (ap rules_of c.self.view_is) c.in_ok-done.ensures.shared
 
 pub returns-clause-unmeasured : goal.returns-clause-unmeasured
