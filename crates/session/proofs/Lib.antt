@@ -8,6 +8,7 @@ mod ColumnEdgeLemmas
 mod CoveringLemmas
 mod EdgeLemmas
 mod EditLemmas
+mod EditedTextLemmas
 mod FirstLemmas
 mod JoinedLemmas
 mod LaidLineLemmas

@@ -44,7 +44,7 @@ module _ (law : ParagraphsArePieces) (engine : Engine) (width : ℕ) (is_measure
     (after_is : after ≡ drop (length (get_or (pars_of kept) (back.index - 1) []) - (back.chars - (range.pos + range.count))) (get_or (pars_of kept) (back.index - 1) [])) where
   module _ (e : Edited) (is : IsTouchedAlone first front back range n e) where
     abbrev l : Layout
-    l = e.laid.now
+    l = e.kept.now
 
     abbrev at : ℕ
     at = range.pos - front.chars
@@ -117,4 +117,4 @@ known_lines kept first front back range n None new shared read alone are = λ ol
     let zeros = are only is in
     subst (λ f. ShareEnds (visuals old) (visuals only) f shared.back) (sym zeros.0) (subst (λ b. ShareEnds (visuals old) (visuals only) 0 b) (sym zeros.1) (none_shared old only))
 known_lines kept first front back range n (Some edited) new shared read alone are = λ old only found one is.
-    subst (λ (l : Layout). ShareEnds (visuals l) (visuals only) shared.front shared.back) (same_Some edited.laid.now old (sym alone.laid ∙ read ∙ found)) (are only is)
+    subst (λ (l : Layout). ShareEnds (visuals l) (visuals only) shared.front shared.back) (same_Some edited.kept.now old (sym alone.laid ∙ read ∙ found)) (are only is)

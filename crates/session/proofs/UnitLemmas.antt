@@ -19,7 +19,7 @@ utf16_few c = elim (nat_lt c 0x1_0000) as (λ b. (if b then 1 else 2) ≤ 4) [ t
 
 -- the number of units of the paragraphs' texts is at most four times their number of characters
 module _ (size : ℕ → ℕ) (few : AreFew size) where
-  few_units : (text : List ℕ) → sum_by size text ≤ 4 * length text
+  pub few_units : (text : List ℕ) → sum_by size text ≤ 4 * length text
   few_units [] = omega arith
   few_units (c ∷ cs) = omega (arith, sum_by-cons size c cs, few c, few_units cs)
 

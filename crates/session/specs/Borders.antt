@@ -41,7 +41,7 @@ damage_between front back fresh = record {
 -- `inserted` characters; `first` is the paragraph after the first border
 pub record IsTouchedAlone (first : Option Layout) (front back : Border) (range : TextRange) (inserted : ℕ) (edited : Edited) : Type 0 where
   pub alone : back.index ≡ front.index + 1
-  pub laid : first ≡ Some edited.laid.now
+  pub laid : first ≡ Some edited.kept.now
   pub at : edited.edit.at ≡ range.pos - front.chars
   pub removed : edited.edit.removed ≡ range.count
   pub inserted_is : edited.edit.inserted ≡ inserted

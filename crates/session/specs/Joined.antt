@@ -21,12 +21,12 @@ joined_advances is_measured front piece back =
 
 -- if a paragraph is given, it is laid out at this width, and the edit makes the text of it
 abbrev pub BecomesBy : Rules → ℕ → Option Edited → List ℕ → Type 0
-BecomesBy rules width edited text = IfSome edited (λ e. IsLaidAt (rules_for rules e.laid.now) width e.laid.now × IsEdited e.laid.now.text text e.edit)
+BecomesBy rules width edited text = IfSome edited (λ e. IsLaidAt (rules_for rules e.kept.now) width e.kept.now × IsEdited e.kept.now.text text e.edit)
 
 -- If an edit has made a paragraph of a laid-out one, both have these lines in common. Otherwise, there are none.
 abbrev pub IsShared : Option Edited → Layout → SharedLines → Type 0
 IsShared None kept shared = (shared.front ≡ 0) × (shared.back ≡ 0)
-IsShared (Some edited) kept shared = ShareEnds (visuals edited.laid.now) (visuals kept) shared.front shared.back
+IsShared (Some edited) kept shared = ShareEnds (visuals edited.kept.now) (visuals kept) shared.front shared.back
 
 -- the same if the edit has made a list of paragraphs that has just one
 abbrev pub AreShared : Option Edited → List Layout → SharedLines → Type 0

@@ -1,6 +1,6 @@
 //! Lays out the paragraphs of a text given in three parts: the text before an edit, the inserted text, and
 //! the text after the edit.
-ghost use Rattle.std.specs.Prelude.{◌≡◌, ◌+◌, ◌-◌, ◌^◌, ◌<◌, ◌≤◌, ◌++◌, true, false, not};
+ghost use Rattle.std.specs.Prelude.{◌≡◌, ◌+◌, ◌-◌, ◌^◌, ◌<◌, ◌≤◌, ◌∷◌, ◌++◌, true, false, not};
 ghost use Rattle.std.specs.Prelude.{length, List, [], ℕ};
 ghost use Rattle.std.specs.Prelude.{nat_le, replicate, sum, None, Option, Some, IfOk, IfErr, IsErrOf};
 ghost use Rattle.std.specs.Str.{chars};
@@ -8,6 +8,7 @@ ghost use Rattle.lines.specs.Engine.{rules_of, LaysOutAtMost, SameRules};
 ghost use Rattle.lines.specs.Layouts.{cut_by, layout_of, visuals, with_advances, HaveRoom, IsParagraph};
 ghost use Rattle.lines.specs.Matching.{ShareEnds};
 ghost use Rattle.lines.specs.Measures.{given_if};
+ghost use Rattle.lines.specs.SameKind.{IsEdited};
 ghost use Rattle.lines.specs.declared.engine.TheConstants.{PARAGRAPH_LIMIT};
 ghost use Rattle.session.specs.Sessions.{IsCountedFor};
 ghost use Rattle.session.specs.Edits.{is_within_limit, paragraphs_refusal, room_refusal};
@@ -22,7 +23,7 @@ use crate::kept::Kept;
 use crate::room::has_room;
 use crate::scan::Scan;
 use bidi::paragraphs_are_pieces;
-use lines::{Engine, Laid, PARAGRAPH_LIMIT, Replacement, SharedLines};
+use lines::{Engine, PARAGRAPH_LIMIT, Replacement, SharedLines};
 use std::alloc::{AllocError, Global};
 use stream::push_characters;
 
@@ -238,7 +239,7 @@ pub fn lay_out_owned(
 /// A laid-out paragraph, and which of its characters an edit replaces.
 #[derive(Clone, Copy, Debug)]
 pub struct Edited<'a> {
-    pub laid: &'a Laid,
+    pub kept: &'a Kept,
     pub edit: Replacement,
 }
 
@@ -268,20 +269,20 @@ fn lay_out_edited(
     requires room { HaveRoom (given_if form.is_measured advances.items) }
     ensures ok { IfOk result (λ kept. kept ≡ layout_of (with_advances (rules_of engine.old)
         (given_if form.is_measured advances.items)) form.width text.items) }
-    ensures shared { IfOk result (λ kept. ShareEnds (visuals edited.entry.laid.now) (visuals kept)
+    ensures shared { IfOk result (λ kept. ShareEnds (visuals edited.entry.kept.now) (visuals kept)
         shared.new.front shared.new.back) }
     ensures rules { SameRules engine.old engine.new }
     ensures counts { LaysOutAtMost (length text.items) engine.old engine.new }
 {
-    let Edited { laid: old, edit } = edited;
-    let width = form.width;
+    let Edited { kept: old, edit } = edited;
+    let (laid, width) = (old.laid(), form.width);
     let done = if form.is_measured {
-        engine.lay_out_measured_edited(alloc, old, edit, text, advances, width)?
+        engine.lay_out_measured_edited(alloc, laid, edit, text, advances, width)?
     } else {
-        engine.lay_out_edited(alloc, old, edit, text, width)?
+        engine.lay_out_edited(alloc, laid, edit, text, width)?
     };
     *shared = done.1;
-    Kept::new(alloc, done.0)
+    Kept::of_edited(alloc, done.0, old, edit)
 }
 
 // Lays out one paragraph, with `lay_out_edited` if an edit has made it of a laid-out one.
@@ -325,6 +326,43 @@ fn trim(list: Vec<char>) -> Vec<char>
     list
 }
 
+// Returns whether the text that an edit has made of a paragraph is one paragraph. Tests only the characters
+// next to the edited ones, and those.
+fn is_still_one(engine: &Engine, edited: &Edited<'_>, text: &[char]) -> bool
+    requires some { 0 < length text.now }
+    requires paragraph { IsParagraph (rules_of engine.now) edited.now.kept.now.text }
+    requires edit { IsEdited edited.now.kept.now.text text.now edited.now.edit }
+    ensures { result ≡ true → paragraphs (cut_by (rules_of engine.now)) text.now ≡ text.now ∷ [] }
+{
+    // By this theorem, whether there is a boundary depends only on the two characters next to it.
+    paragraphs_are_pieces();
+    let edit = edited.edit;
+    let end = edit.at + edit.inserted;
+    let around = &text[edit.at.saturating_sub(1)..text.len().min(end + 1)];
+    match engine.first_cut(around) {
+        Some(_) => false,
+        None => true,
+    }
+}
+
+// Returns whether a text is one paragraph. If an edit has made it of a single paragraph, `edited` is that
+// paragraph.
+fn is_one(engine: &Engine, edited: &Option<Edited<'_>>, width: u32, text: &[char]) -> bool
+    requires some { 0 < length text.now }
+    requires edited { BecomesBy (rules_of engine.now) width edited.now text.now }
+    ensures { result ≡ true → paragraphs (cut_by (rules_of engine.now)) text.now ≡ text.now ∷ [] }
+{
+    if let Some(edited) = edited {
+        if is_still_one(engine, edited, text) {
+            return true;
+        }
+    }
+    match engine.first_cut(text) {
+        Some(_) => false,
+        None => true,
+    }
+}
+
 // Lays out each paragraph of a nonempty text once. A text that is a single paragraph moves into the layout.
 // If an edit has made the text of a single paragraph, `edited` is that paragraph.
 fn lay_out(
@@ -348,28 +386,20 @@ fn lay_out(
     ensures rules { SameRules engine.old engine.new }
     ensures counts { LaysOutAtMost (length text.items) engine.old engine.new }
 {
-    // By this theorem, a text without a boundary is one paragraph.
-    paragraphs_are_pieces();
-    match engine.first_cut(&text) {
-        Some(_) => {
-            let part = Part {
-                text: &text,
-                advances: &advances,
-            };
-            let kept = lay_out_each(alloc, engine, &part, form)?;
-            Ok(Relaid {
-                kept,
-                shared: SharedLines::NONE,
-            })
-        }
-        None => {
-            let mut kept = Vec::with_capacity(alloc, 1)?;
-            let (text, mut shared) = (trim(text), SharedLines::NONE);
-            let one = lay_out_single(alloc, engine, &mut shared, edited, text, advances, form)?;
-            kept.push(one)?;
-            Ok(Relaid { kept, shared })
-        }
+    if !is_one(engine, &edited, form.width, &text) {
+        let part = Part {
+            text: &text,
+            advances: &advances,
+        };
+        let kept = lay_out_each(alloc, engine, &part, form)?;
+        let shared = SharedLines::NONE;
+        return Ok(Relaid { kept, shared });
     }
+    let mut kept = Vec::with_capacity(alloc, 1)?;
+    let (text, mut shared) = (trim(text), SharedLines::NONE);
+    let one = lay_out_single(alloc, engine, &mut shared, edited, text, advances, form)?;
+    kept.push(one)?;
+    Ok(Relaid { kept, shared })
 }
 
 // Splits the advances of a measured text after those of its first `len` characters. If the text is not

@@ -1,13 +1,14 @@
 //! A paragraph as an item of a session's store.
-ghost use Rattle.std.specs.Prelude.{◌≡◌, ◌≤◌, ℕ, length, refl, IfOk};
+ghost use Rattle.std.specs.Prelude.{◌≡◌, ◌+◌, ◌≤◌, ℕ, length, refl, IfOk};
 ghost use Rattle.lines.specs.Engine.{counted, rules_of};
 ghost use Rattle.lines.specs.Extents.{extents_in, extents_of, reflowed};
+ghost use Rattle.lines.specs.SameKind.{IsEdited};
 ghost use Rattle.session.specs.Kept.{rules_for, IsFresh};
 ghost use Rattle.session.specs.Offsets.{length_in, units_of};
 ghost use Rattle.session.specs.declared.offsets.Encoding.TheVariants.{Utf8, Utf16};
 
 use crate::offsets::{lengths, utf16_length};
-use lines::{Engine, Extents, Fill, Laid, ReflowScratch};
+use lines::{Engine, Extents, Fill, Laid, ReflowScratch, Replacement};
 use std::alloc::{AllocError, Global};
 use std::marker::Model;
 use store::{Exchange, Exchanger, Measured};
@@ -63,6 +64,29 @@ impl Kept {
             lines: laid.line_count(),
             bytes,
             utf16,
+            laid: Box::new(alloc, laid)?,
+        })
+    }
+
+    /// Does the same as `new`, for a layout whose text an edit has made of that of `old`. Counts only the edited
+    /// characters.
+    pub fn of_edited(
+        alloc: Global,
+        laid: Laid,
+        old: &Kept,
+        edit: Replacement,
+    ) -> Result<Kept, AllocError>
+        requires { IsEdited old.now.text laid.text edit }
+        ensures { IfOk result (λ kept. kept ≡ laid) }
+    {
+        let text = laid.text();
+        let removed = lengths(&old.laid.text()[edit.at..edit.at + edit.removed]);
+        let inserted = lengths(&text[edit.at..edit.at + edit.inserted]);
+        Ok(Kept {
+            chars: text.len(),
+            lines: laid.line_count(),
+            bytes: old.bytes - removed.0 + inserted.0,
+            utf16: old.utf16 - removed.1 + inserted.1,
             laid: Box::new(alloc, laid)?,
         })
     }

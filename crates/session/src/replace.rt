@@ -106,7 +106,7 @@ fn edited_paragraph(
     }
     let kept = first?;
     Some(Edited {
-        laid: kept.laid(),
+        kept,
         edit: Replacement {
             at: range.pos - front.chars,
             removed: range.count,

@@ -1,6 +1,6 @@
 use Rattle.std.proofs.Common.{◌≡◌, ◌∙◌, Bool, IfOk, ap, subst, sym}
 use Rattle.lines.specs.Engine.{rules_of}
-use Rattle.lines.specs.Layouts.{layout_of, with_advances, Layout, Rules}
+use Rattle.lines.specs.Layouts.{layout_of, with_advances, IsLaidAt, Layout, Rules}
 use Rattle.lines.specs.Measures.{given_if}
 use Rattle.lines.specs.declared.matching.SharedLines.{SharedLines}
 use Rattle.lines.proofs.LayoutLemmas.{own_rules}
@@ -19,4 +19,11 @@ returns-clause-ok c =
           ap (λ (d : Layout × SharedLines). d.0) w.done-is ∙ w.in_ok-done-2.ensures.ok ∙ sym (ap (λ (r : Rules). layout_of r width text) (own_rules by w.lay_out_edited.ensures.unmeasured))
           ∙ ap whole (sym w.if-form.false)
     ] in
-    subst (λ (l : Layout). IfOk c.new.result (λ kept. kept ≡ l)) laid c.new.ensures
+    subst (λ (l : Layout). IfOk c.of_edited.result (λ kept. kept ≡ l)) laid c.of_edited.ensures
+
+pub lay_out_edited-requires-clause-laid : goal.lay_out_edited-requires-clause-laid
+lay_out_edited-requires-clause-laid c = subst (λ (l : Layout). IsLaidAt (with_advances (rules_of c.args.engine.now) l.advances) c.args.form.width l) (sym c.laid-laid.ensures) c.requires.edited.0
+
+pub lay_out_measured_edited-requires-clause-laid : goal.lay_out_measured_edited-requires-clause-laid
+lay_out_measured_edited-requires-clause-laid c =
+    subst (λ (l : Layout). IsLaidAt (with_advances (rules_of c.args.engine.now) l.advances) c.args.form.width l) (sym c.laid-laid.ensures) c.requires.edited.0
