@@ -22,4 +22,18 @@ static inline uint32_t one_of_kind(size_t kind) {
     return kinds[kind][0] + (uint32_t)below(kinds[kind][1] - kinds[kind][0] + 1);
 }
 
+/* Stores up to three characters of a kind, or none if `kind` is `KINDS`. Returns their number. */
+static inline size_t typed(size_t kind, uint32_t *into) {
+    size_t count = kind < KINDS ? below(4) : 0;
+    for (size_t k = 0; k < count; k++) into[k] = one_of_kind(kind);
+    return count;
+}
+
+/* Returns how many characters at the start of `text`, at most three, are of a kind. */
+static inline size_t erased(size_t kind, const uint32_t *text, size_t length) {
+    size_t most = kind < KINDS ? below(4) : 0, count = 0;
+    while (count < most && count < length && kind_of(text[count]) == kind) count++;
+    return count;
+}
+
 #endif

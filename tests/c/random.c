@@ -3,62 +3,10 @@
  * FOLDER CHANGES [17.0], where FOLDER has the table files, by default of Unicode 15.0. */
 #include "test.h"
 #include "kinds.h"
+#include "same_sessions.h"
 #include "snapshot.h"
 
-enum { MOST = 300, BYTES = 1 << 20 };
-
-static char pages[2][BYTES];
-
-#define OK(call) HOLDS((call) == HORDGULI_OK)
-
-/* Compares the printed lines of both sessions. */
-static void same_pages(hordguli_session *kept, hordguli_session *anew, const hordguli_counts *counts, uint32_t print) {
-    size_t lengths[2];
-    OK(hordguli_lines_utf8(kept, 0, counts->lines, print, BYTES, pages[0], &lengths[0]));
-    OK(hordguli_lines_utf8(anew, 0, counts->lines, print, BYTES, pages[1], &lengths[1]));
-    HOLDS(lengths[0] == lengths[1] && memcmp(pages[0], pages[1], lengths[0]) == 0);
-}
-
-static void same_lines(hordguli_session *kept, hordguli_session *anew, const hordguli_counts *counts) {
-    static uint32_t characters[2][BYTES], ltov[2][BYTES], vtol[2][BYTES];
-    static uint8_t levels[2][BYTES];
-    static size_t columns[2][BYTES];
-    hordguli_session *both[2] = {kept, anew};
-    for (size_t line = 0; line < counts->lines; line++) {
-        hordguli_line_info infos[2];
-        static hordguli_run runs[2][MOST * 4];
-        size_t starts[2], shown, run_counts[2];
-        for (int k = 0; k < 2; k++) {
-            OK(hordguli_runs(both[k], line, MOST * 4, runs[k], &run_counts[k]));
-            OK(hordguli_line(both[k], line, &infos[k], BYTES, characters[k], levels[k], ltov[k], vtol[k], columns[k]));
-            OK(hordguli_line_start(both[k], line, &starts[k]));
-        }
-        shown = infos[0].shown;
-        HOLDS(memcmp(&infos[0], &infos[1], sizeof infos[0]) == 0 && starts[0] == starts[1] && starts[0] == infos[0].start);
-        HOLDS(memcmp(characters[0], characters[1], shown * sizeof **characters) == 0);
-        HOLDS(memcmp(levels[0], levels[1], shown) == 0);
-        HOLDS(memcmp(ltov[0], ltov[1], shown * sizeof **ltov) == 0);
-        HOLDS(memcmp(vtol[0], vtol[1], shown * sizeof **vtol) == 0);
-        HOLDS(memcmp(columns[0], columns[1], shown * sizeof **columns) == 0);
-        HOLDS(run_counts[0] == run_counts[1] && memcmp(runs[0], runs[1], run_counts[0] * sizeof **runs) == 0);
-        for (size_t k = 0; k < shown; k++) {
-            if (vtol[0][ltov[0][k]] == k) continue;
-            HOLDS(!"the maps are inverse");
-            break;
-        }
-    }
-    for (size_t paragraph = 0, start = 0, line = 0; paragraph < counts->paragraphs; paragraph++) {
-        hordguli_paragraph_info infos[2];
-        for (int k = 0; k < 2; k++)
-            OK(hordguli_paragraph(both[k], paragraph, &infos[k], BYTES, levels[k], (uint8_t *)columns[k]));
-        HOLDS(memcmp(&infos[0], &infos[1], sizeof infos[0]) == 0);
-        HOLDS(infos[0].start == start && infos[0].first_line == line);
-        start += infos[0].length;
-        line += infos[0].lines;
-        HOLDS(memcmp(levels[0], levels[1], infos[0].length) == 0);
-        HOLDS(memcmp(columns[0], columns[1], infos[0].length) == 0);
-    }
-}
+enum { MOST = 300, BYTES = SAME_ELEMENTS };
 
 /* For a line whose characters are all shown, `hordguli_row` returns what the session returns. */
 static void lines_are_rows(hordguli_session *session, hordguli_tables *tables, const hordguli_counts *counts,
@@ -167,20 +115,6 @@ static void text_alone_is_that_of_session(hordguli_session *session, const char 
 static uint32_t text[MOST * 4];
 static size_t length;
 
-/* Returns up to three characters of the kind of the character before `pos`, or none if that has no kind. */
-static size_t typed(size_t pos, uint32_t *piece) {
-    size_t kind = kind_of(text[pos - 1]), count = kind < KINDS ? below(4) : 0;
-    for (size_t k = 0; k < count; k++) piece[k] = one_of_kind(kind);
-    return count;
-}
-
-/* Returns how many characters from `pos` on, at most three, are of the kind of the character before them. */
-static size_t erased(size_t pos) {
-    size_t kind = kind_of(text[pos - 1]), most = kind < KINDS ? below(4) : 0, count = 0;
-    while (count < most && pos + count < length && kind_of(text[pos + count]) == kind) count++;
-    return count;
-}
-
 int main(int count, char **words) {
     hordguli_tables tables = HORDGULI_TABLES_INIT;
     hordguli_session kept = HORDGULI_SESSION_INIT;
@@ -215,9 +149,11 @@ int main(int count, char **words) {
         take(&kept, NULL, &then);
         OK(hordguli_session_work(&kept, &work));
         if (is_run) {
+            size_t kind;
             pos = 1 + below(length);
-            piece_length = typed(pos, piece);
-            taken = erased(pos);
+            kind = kind_of(text[pos - 1]);
+            piece_length = typed(kind, piece);
+            taken = erased(kind, text + pos, length - pos);
             is_run = piece_length + taken > 0;
         } else {
             if (below(3) != 0 || length == 0) piece_length = decoded(text_pieces[below(TEXT_PIECES)], piece);
