@@ -2,18 +2,18 @@
 #ifndef SAME_SESSIONS_H
 #define SAME_SESSIONS_H
 
-/* The maximum numbers of bytes or characters that a call stores, and of the runs of a line */
+/* The maximum numbers of elements of an array, and of the runs of a line */
 enum { SAME_ELEMENTS = 1 << 20, SAME_RUNS = 2048 };
 
-static char pages[2][SAME_ELEMENTS];
+static char pages[2][2 * SAME_ELEMENTS];
 
 #define OK(call) HOLDS((call) == HORDGULI_OK)
 
 /* Compares the printed lines of both sessions. */
 static void same_pages(hordguli_session *kept, hordguli_session *anew, const hordguli_counts *counts, uint32_t print) {
     size_t lengths[2];
-    OK(hordguli_lines_utf8(kept, 0, counts->lines, print, SAME_ELEMENTS, pages[0], &lengths[0]));
-    OK(hordguli_lines_utf8(anew, 0, counts->lines, print, SAME_ELEMENTS, pages[1], &lengths[1]));
+    OK(hordguli_lines_utf8(kept, 0, counts->lines, print, sizeof *pages, pages[0], &lengths[0]));
+    OK(hordguli_lines_utf8(anew, 0, counts->lines, print, sizeof *pages, pages[1], &lengths[1]));
     HOLDS(lengths[0] == lengths[1] && memcmp(pages[0], pages[1], lengths[0]) == 0);
 }
 
