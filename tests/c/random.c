@@ -46,51 +46,6 @@ static void lines_are_rows(hordguli_session *session, hordguli_tables *tables, c
     }
 }
 
-static void same_places(hordguli_session *kept, hordguli_session *anew, const hordguli_counts *counts) {
-    for (int times = 0; times < 5; times++) {
-        size_t pos = below(counts->characters + 1), line = below(counts->lines + 1), column = below(90);
-        hordguli_place places[2];
-        hordguli_caret carets[2];
-        hordguli_hit hits[2];
-        hordguli_cluster clusters[2];
-        hordguli_word words[2];
-        hordguli_position positions[2][2];
-        size_t offsets[2][2];
-        hordguli_session *both[2] = {kept, anew};
-        hordguli_status status[2][5];
-        memset(places, 0, sizeof places);
-        memset(carets, 0, sizeof carets);
-        memset(hits, 0, sizeof hits);
-        memset(clusters, 0, sizeof clusters);
-        memset(words, 0, sizeof words);
-        memset(positions, 0, sizeof positions);
-        memset(offsets, 0, sizeof offsets);
-        for (int k = 0; k < 2; k++) {
-            status[k][0] = hordguli_place_of(both[k], pos, &places[k]);
-            status[k][1] = hordguli_caret_at(both[k], pos, &carets[k]);
-            status[k][2] = hordguli_hit_at(both[k], line, column, &hits[k]);
-            status[k][3] = hordguli_cluster_at(both[k], pos, &clusters[k]);
-            status[k][4] = hordguli_word_at(both[k], pos, &words[k]);
-            OK(hordguli_byte_of(both[k], pos, &offsets[k][0]));
-            OK(hordguli_utf16_of(both[k], pos, &offsets[k][1]));
-            OK(hordguli_position_of_byte(both[k], offsets[k][0], &positions[k][0]));
-            OK(hordguli_position_of_utf16(both[k], offsets[k][1], &positions[k][1]));
-        }
-        HOLDS(memcmp(status[0], status[1], sizeof status[0]) == 0);
-        HOLDS(status[0][0] == HORDGULI_OK && status[0][1] == HORDGULI_OK);
-        HOLDS(status[0][2] == (line < counts->lines ? HORDGULI_OK : HORDGULI_OUT_OF_RANGE));
-        HOLDS(status[0][3] == (pos < counts->characters ? HORDGULI_OK : HORDGULI_OUT_OF_RANGE));
-        HOLDS(memcmp(&places[0], &places[1], sizeof places[0]) == 0 && memcmp(&carets[0], &carets[1], sizeof carets[0]) == 0);
-        HOLDS(memcmp(&hits[0], &hits[1], sizeof hits[0]) == 0 && memcmp(&clusters[0], &clusters[1], sizeof clusters[0]) == 0);
-        HOLDS(status[0][3] != HORDGULI_OK || (clusters[0].start <= pos && pos < clusters[0].end));
-        HOLDS(memcmp(offsets[0], offsets[1], sizeof offsets[0]) == 0);
-        HOLDS(positions[0][0].pos == pos && positions[0][0].rest == 0 && positions[0][1].pos == pos && positions[0][1].rest == 0);
-        HOLDS(memcmp(positions[0], positions[1], sizeof positions[0]) == 0);
-        HOLDS(status[0][4] == status[0][3] && memcmp(&words[0], &words[1], sizeof words[0]) == 0);
-        HOLDS(status[0][4] != HORDGULI_OK || (words[0].start <= pos && pos < words[0].end && words[0].kind <= 1 && words[0].zero == 0));
-    }
-}
-
 /* Calls without a session return the same characters, offsets and clusters as those on the session. */
 static void text_alone_is_that_of_session(hordguli_session *session, const char *bytes, size_t size, size_t count) {
     static uint32_t characters[2][MOST * 4];

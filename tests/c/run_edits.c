@@ -6,12 +6,12 @@
  *   analyses the paragraph.
  * - Checks that refused edits change nothing.
  * - Edits SESSIONS random sessions. Most edits double or erase a character. */
-#include "test.h"
+#include "answers.h"
 #include "kinds.h"
 #include "same_sessions.h"
 #include "snapshot.h"
 
-enum { PARAGRAPH_LIMIT = 1 << 20, TEXT_LIMIT = 1 << 24, FILLER = 560, PIECE = 64, DIRECTIONS = 0x3000003 };
+enum { PARAGRAPH_LIMIT = 1 << 20, TEXT_LIMIT = 1 << 24, FILLER = 320, PIECE = 64, DIRECTIONS = 0x3000003, TAB_BITS = 0xFF00 };
 
 static hordguli_tables tables = HORDGULI_TABLES_INIT;
 static hordguli_session kept = HORDGULI_SESSION_INIT;
@@ -40,14 +40,12 @@ static void open_on_text(hordguli_session *session) {
     }
 }
 
-/* Sets the text to that of the parts, and each advance to the character's own. */
-static void set_text(const uint32_t *const *parts, const size_t *lengths, size_t count) {
-    length = 0;
-    for (size_t k = 0; k < count; k++) {
-        memcpy(text + length, parts[k], lengths[k] * sizeof *text);
-        length += lengths[k];
+/* Appends characters to the text, with their own advances. */
+static void append(const uint32_t *characters, size_t count) {
+    for (size_t k = 0; k < count; k++, length++) {
+        text[length] = characters[k];
+        advances[length] = advance_of(characters[k]);
     }
-    for (size_t k = 0; k < length; k++) advances[k] = advance_of(text[k]);
 }
 
 static void equals_new_session(void) {
@@ -57,14 +55,20 @@ static void equals_new_session(void) {
     OK(hordguli_session_counts(&kept, &counts));
     OK(hordguli_session_counts(&anew, &others));
     if (HOLDS(memcmp(&counts, &others, sizeof counts) == 0 && counts.characters == length && counts.width == width)) {
+        static uint32_t characters[PARAGRAPH_LIMIT];
+        size_t count;
         same_lines(&kept, &anew, &counts);
         same_pages(&kept, &anew, &counts, HORDGULI_PRINT_DEFAULT);
+        same_places(&kept, &anew, &counts);
+        OK(hordguli_text_utf32(&kept, 0, length, PARAGRAPH_LIMIT, characters, &count));
+        if (length <= 40 && (options & TAB_BITS) == 0 && below(4) == 0) answers_are_equal(&kept, &anew, length);
+        HOLDS(count == length && memcmp(characters, text, length * sizeof *text) == 0);
     }
     hordguli_session_close(&anew);
 }
 
-/* What a call analyses: nothing, at least one character, or any number of characters. */
-enum { NOTHING, SOME, ANY };
+/* What a call analyses: nothing, all characters of the new paragraphs, or any number of characters. */
+enum { NOTHING, PARAGRAPH, ANY };
 
 /* The session before a call, and the damage that the call should have, except for the numbers of new lines and paragraphs */
 static struct {
@@ -72,16 +76,16 @@ static struct {
     hordguli_counts counts;
     hordguli_work work;
     hordguli_damage damage;
-} before;
+} old;
 
 /* Keeps the state before a call that replaces the paragraphs whose spans, with both ends, intersect a range. */
 static void begin(size_t pos, size_t end) {
-    hordguli_damage *damage = &before.damage;
+    hordguli_damage *damage = &old.damage;
     memset(damage, 0, sizeof *damage);
-    take(&kept, own_advances(), &before.lines);
-    OK(hordguli_session_counts(&kept, &before.counts));
-    OK(hordguli_session_work(&kept, &before.work));
-    for (size_t paragraph = 0; paragraph < before.counts.paragraphs; paragraph++) {
+    take(&kept, own_advances(), &old.lines);
+    OK(hordguli_session_counts(&kept, &old.counts));
+    OK(hordguli_session_work(&kept, &old.work));
+    for (size_t paragraph = 0; paragraph < old.counts.paragraphs; paragraph++) {
         hordguli_paragraph_info info;
         OK(hordguli_paragraph(&kept, paragraph, &info, 0, NULL, NULL));
         if (info.start > end || info.start + info.length < pos) continue;
@@ -90,21 +94,33 @@ static void begin(size_t pos, size_t end) {
     }
 }
 
+/* Returns how many characters the new paragraphs of a damage have. */
+static size_t new_characters(const hordguli_damage *damage) {
+    size_t sum = 0;
+    for (size_t k = 0; k < damage->new_paragraphs; k++) {
+        hordguli_paragraph_info info = {0, 0, 0, 0, 0, 0};
+        OK(hordguli_paragraph(&kept, damage->first_paragraph + k, &info, 0, NULL, NULL));
+        sum += info.length;
+    }
+    return sum;
+}
+
 /* Checks the damage, the changed lines and the number of analysed characters after a call. */
 static void end(const hordguli_damage *damage, int analysed) {
     static snapshot now;
     hordguli_counts counts;
     hordguli_work work;
-    hordguli_damage *wanted = &before.damage;
+    hordguli_damage *wanted = &old.damage;
     take(&kept, own_advances(), &now);
     OK(hordguli_session_counts(&kept, &counts));
     OK(hordguli_session_work(&kept, &work));
-    wanted->new_lines = wanted->old_lines + counts.lines - before.counts.lines;
-    wanted->new_paragraphs = wanted->old_paragraphs + counts.paragraphs - before.counts.paragraphs;
+    wanted->new_lines = wanted->old_lines + counts.lines - old.counts.lines;
+    wanted->new_paragraphs = wanted->old_paragraphs + counts.paragraphs - old.counts.paragraphs;
     HOLDS(memcmp(damage, wanted, sizeof *damage) == 0);
-    lines_were_replaced(&before.lines, &now, damage->first_line, damage->old_lines, damage->new_lines);
-    changed_lines_are_right(&kept, &before.lines, &now, damage);
-    HOLDS(analysed == ANY || (work.analysed > before.work.analysed) == (analysed == SOME));
+    lines_were_replaced(&old.lines, &now, damage->first_line, damage->old_lines, damage->new_lines);
+    changed_lines_are_right(&kept, &old.lines, &now, damage);
+    HOLDS(work.filled - old.work.filled <= counts.characters && work.written - old.work.written <= counts.characters);
+    HOLDS(analysed == ANY || work.analysed - old.work.analysed == (analysed == PARAGRAPH ? new_characters(damage) : 0));
 }
 
 /* Makes an edit in the session and in the text. An edit that touches several paragraphs analyses them. */
@@ -113,7 +129,7 @@ static void edit(size_t pos, size_t removed, const uint32_t *piece, size_t added
     size_t size = encoded(piece, added, piece_bytes);
     hordguli_damage damage = {7, 7, 7, 7, 7, 7};
     begin(pos, pos + removed);
-    if (analysed == NOTHING && before.damage.old_paragraphs != 1) analysed = SOME;
+    if (analysed == NOTHING && old.damage.old_paragraphs != 1) analysed = PARAGRAPH;
     if (added == 0) OK(hordguli_delete(&kept, pos, removed, &damage));
     else if (removed == 0) OK(hordguli_insert(&kept, pos, piece_bytes, size, &damage));
     else OK(hordguli_replace(&kept, pos, removed, piece_bytes, size, &damage));
@@ -122,7 +138,7 @@ static void edit(size_t pos, size_t removed, const uint32_t *piece, size_t added
     memcpy(text + pos, piece, added * sizeof *text);
     memset(advances + pos, 0, added * sizeof *advances);
     length += added - removed;
-    end(&damage, damage.new_paragraphs == 0 ? ANY : analysed);
+    end(&damage, analysed);
 }
 
 /* Sets the advances of a range to those of its characters. This analyses nothing. */
@@ -155,7 +171,7 @@ typedef struct row {
     int analysed;
 } row;
 
-/* SOME with tables of Unicode 17.0, NOTHING with those of 15.0 */
+/* PARAGRAPH with tables of Unicode 17.0, NOTHING with those of 15.0 */
 enum { SINCE_17 = ANY + 1 };
 
 static const row rows[] = {
@@ -164,57 +180,58 @@ static const row rows[] = {
     {"an AL before an AL before EN", "ab \u0628 12 cd", 8, 0, 3, 0, "\u062a", NOTHING},
     {"an AL between an AL and EN", "\u062812 cd", 5, HORDGULI_RTL, 1, 0, "\u0629", NOTHING},
     {"an EN between an AL and EN", "\u062812 cd", 5, 0, 1, 0, "3", NOTHING},
-    {"an EN between an AL and a space", "\u0628 12", 5, 0, 1, 0, "3", SOME},
-    {"a letter between an AL and a space", "ab \u0628 12 cd", 8, 0, 4, 0, "x", SOME},
-    {"a Hebrew letter between an AL and EN", "ab \u062812 cd", 8, 0, 4, 0, "\u05d0", SOME},
+    {"an EN between an AL and a space", "\u0628 12", 5, 0, 1, 0, "3", PARAGRAPH},
+    {"a letter between an AL and a space", "ab \u0628 12 cd", 8, 0, 4, 0, "x", PARAGRAPH},
+    {"a Hebrew letter between an AL and EN", "ab \u062812 cd", 8, 0, 4, 0, "\u05d0", PARAGRAPH},
     {"an AL deleted after an AL before EN", "ab \u0628\u0629 12 cd", 8, 0, 4, 1, "", NOTHING},
-    {"the only AL before EN deleted", "ab \u0628 12 cd", 8, 0, 3, 1, "", SOME},
+    {"the only AL before EN deleted", "ab \u0628 12 cd", 8, 0, 3, 1, "", PARAGRAPH},
     {"an AL replaced by two beside an AL", "x \u0628\u0629 12,3", 6, HORDGULI_WEAK_RTL, 3, 1, "\u062b\u062c", NOTHING},
-    {"a Hebrew letter before an AL replaced by an AL", "x \u05d0\u0629 12,3", 6, 0, 2, 1, "\u062b", SOME},
+    {"a Hebrew letter before an AL replaced by an AL", "x \u05d0\u0629 12,3", 6, 0, 2, 1, "\u062b", PARAGRAPH},
     {"AN inside AN after an AL", "\u0628\u0661\u0662 12", 6, 0, 2, 0, "\u0663", NOTHING},
     /* Inside a number, and between ET and EN */
     {"a digit inside a number", "ab 12 cd", 6, 0, 4, 0, "3", NOTHING},
     {"three digits inside a number", "ab 12 cd", 6, 0, 4, 0, "345", NOTHING},
     {"a digit between CS and EN", "\u05d0 1,2 cd", 6, 0, 4, 0, "3", NOTHING},
     {"a digit between EN and CS", "\u05d0 1,2 cd", 6, 0, 3, 0, "3", NOTHING},
-    {"a second CS between digits", "\u05d0 1,2 cd", 6, 0, 3, 0, ",", SOME},
-    {"ES between digits", "\u05d0 12 cd", 6, 0, 3, 0, "+", SOME},
-    {"HY beside HY between digits", "\u05d0 1-2 cd", 6, 0, 4, 0, "-", SOME},
-    {"AN inside EN", "\u05d0 12 cd", 6, 0, 3, 0, "\u0661", SOME},
+    {"a second CS between digits", "\u05d0 1,2 cd", 6, 0, 3, 0, ",", PARAGRAPH},
+    {"ES between digits", "\u05d0 12 cd", 6, 0, 3, 0, "+", PARAGRAPH},
+    {"ES beside ES between digits", "\u05d0 1+2 cd", 6, 0, 4, 0, "+", PARAGRAPH},
+    {"HY beside HY between digits", "\u05d0 1-2 cd", 6, 0, 4, 0, "-", PARAGRAPH},
+    {"AN inside EN", "\u05d0 12 cd", 6, 0, 3, 0, "\u0661", PARAGRAPH},
     {"a digit deleted from a number", "\u05d0 1,22 cd", 6, 0, 4, 1, "", NOTHING},
-    {"a digit between CS deleted", "\u05d0 1,2,3 cd", 6, 0, 4, 1, "", SOME},
-    {"a number deleted between letters", "ab12cd", 4, 0, 2, 2, "", SOME},
+    {"a digit between CS deleted", "\u05d0 1,2,3 cd", 6, 0, 4, 1, "", PARAGRAPH},
+    {"a number deleted between letters", "ab12cd", 4, 0, 2, 2, "", PARAGRAPH},
     {"digits of a number replaced", "\u05d0 1234 cd", 6, 0, 3, 2, "567", NOTHING},
     {"a digit of a whole number", "$(1,200)", 4, HORDGULI_WHOLE_NUMBERS, 3, 0, "4", NOTHING},
     {"a digit between ET and EN", "\u05d0 $12 cd", 6, 0, 3, 0, "3", NOTHING},
     {"a digit between EN and ET", "\u05d0 12% cd", 6, 0, 4, 0, "3", NOTHING},
-    {"PR between ET and EN", "\u05d0 $12 cd", 6, 0, 3, 0, "$", SOME},
-    {"PO after ET", "\u05d0 12% cd", 6, 0, 5, 0, "%", SOME},
-    {"a letter between ET and EN", "\u05d0 $12 cd", 6, 0, 3, 0, "x", SOME},
+    {"PR between ET and EN", "\u05d0 $12 cd", 6, 0, 3, 0, "$", PARAGRAPH},
+    {"PO after ET", "\u05d0 12% cd", 6, 0, 5, 0, "%", PARAGRAPH},
+    {"a letter between ET and EN", "\u05d0 $12 cd", 6, 0, 3, 0, "x", PARAGRAPH},
     {"a digit before ET deleted", "\u05d0 12% cd", 6, 0, 3, 1, "", NOTHING},
-    {"the only digit beside ET deleted", "\u05d0 $1 cd", 6, 0, 3, 1, "", SOME},
+    {"the only digit beside ET deleted", "\u05d0 $1 cd", 6, 0, 3, 1, "", PARAGRAPH},
     /* Beside a bracket */
     {"a letter after an opening bracket", "a (bc) d", 5, 0, 3, 0, "x", NOTHING},
     {"a letter before a closing bracket", "a (bc) d", 5, 0, 5, 0, "x", NOTHING},
     {"a letter before an opening bracket", "a(bc) d", 5, 0, 1, 0, "x", NOTHING},
     {"a letter after a closing bracket", "a (bc)d", 5, 0, 6, 0, "x", NOTHING},
     {"a Hebrew letter in brackets in LTR text", "a (\u05d0) b", 5, 0, 4, 0, "\u05d1", NOTHING},
-    {"a letter in empty brackets", "a () b", 5, 0, 3, 0, "x", SOME},
-    {"a letter in brackets beside a Hebrew letter", "\u05d0 (\u05d1) \u05d2", 5, 0, 4, 0, "x", SOME},
-    {"an opening bracket beside one", "a ((b)) c", 5, 0, 3, 0, "(", SOME},
-    {"a closing bracket beside one", "a ((b)) c", 5, 0, 5, 0, ")", SOME},
+    {"a letter in empty brackets", "a () b", 5, 0, 3, 0, "x", PARAGRAPH},
+    {"a letter in brackets beside a Hebrew letter", "\u05d0 (\u05d1) \u05d2", 5, 0, 4, 0, "x", PARAGRAPH},
+    {"an opening bracket beside one", "a ((b)) c", 5, 0, 3, 0, "(", PARAGRAPH},
+    {"a closing bracket beside one", "a ((b)) c", 5, 0, 5, 0, ")", PARAGRAPH},
     {"one of two letters in brackets deleted", "\u05d0 (xy) \u05d2", 5, 0, 3, 1, "", NOTHING},
-    {"the only letter in brackets deleted", "\u05d0 (x) \u05d2", 5, 0, 3, 1, "", SOME},
-    {"a bracket replaced by a letter", "a (bc) d", 5, 0, 2, 1, "x", SOME},
+    {"the only letter in brackets deleted", "\u05d0 (x) \u05d2", 5, 0, 3, 1, "", PARAGRAPH},
+    {"a bracket replaced by a letter", "a (bc) d", 5, 0, 2, 1, "x", PARAGRAPH},
     {"a space beside a space in brackets", "\u05d0 ( x) \u05d2", 5, 0, 3, 0, " ", NOTHING},
     /* Before a mark */
     {"a letter between a letter and its mark", "xa\u0301b cd", 4, 0, 2, 0, "e", NOTHING},
     {"a letter before a letter with a mark", "xa\u0301b cd", 4, 0, 1, 0, "e", NOTHING},
     {"a letter after a mark before a letter", "xa\u0301b cd", 4, 0, 3, 0, "e", NOTHING},
-    {"a letter after a mark before a space", "xa\u0301 cd", 4, 0, 3, 0, "e", SOME},
-    {"a mark after a mark", "xa\u0301b cd", 4, 0, 3, 0, "\u0301", SOME},
+    {"a letter after a mark before a space", "xa\u0301 cd", 4, 0, 3, 0, "e", PARAGRAPH},
+    {"a mark after a mark", "xa\u0301b cd", 4, 0, 3, 0, "\u0301", PARAGRAPH},
     {"the letter with a mark deleted after a letter", "xa\u0301b cd", 4, 0, 1, 1, "", NOTHING},
-    {"the only letter with a mark deleted", "x a\u0301 cd", 4, 0, 2, 1, "", SOME},
+    {"the only letter with a mark deleted", "x a\u0301 cd", 4, 0, 2, 1, "", PARAGRAPH},
     {"a Hebrew letter before a point", "\u05d0\u05b0\u05d1 \u05d2", 4, HORDGULI_REORDER_NSM, 1, 0, "\u05d3", NOTHING},
     {"a Hebrew letter before a point in clusters", "\u05d0\u05b0\u05d1 \u05d2", 4, HORDGULI_REORDER_CLUSTERS, 1, 0, "\u05d3", NOTHING},
     {"a space between a space and a mark", "a  \u0301b", 4, 0, 3, 0, " ", NOTHING},
@@ -225,18 +242,18 @@ static const row rows[] = {
     {"a letter before the PDI", "a \u2067bc\u2069 d", 5, 0, 5, 0, "x", NOTHING},
     {"a Hebrew letter in an LRI", "a \u2066\u05d0 1\u2069 d", 5, 0, 4, 0, "\u05d1", NOTHING},
     {"a Hebrew letter in an FSI", "a \u2068\u05d0 1\u2069 d", 5, 0, 3, 0, "\u05d1", NOTHING},
-    {"a letter before the first strong letter of an FSI", "a \u20681 \u05d0\u2069 d", 5, 0, 3, 0, "x", SOME},
-    {"a letter in an empty isolate", "a \u2067\u2069 d", 5, 0, 3, 0, "x", SOME},
+    {"a letter before the first strong letter of an FSI", "a \u20681 \u05d0\u2069 d", 5, 0, 3, 0, "x", PARAGRAPH},
+    {"a letter in an empty isolate", "a \u2067\u2069 d", 5, 0, 3, 0, "x", PARAGRAPH},
     {"a letter after a PDI before a letter", "a\u2067\u05d0\u2069bc", 5, 0, 4, 0, "x", NOTHING},
     {"a digit after a PDI before a digit", "\u05d0\u2067\u05d0\u2069 1\u20692", 5, 0, 7, 0, "3", NOTHING},
-    {"a letter after a PDI before a space", "a \u2067bc\u2069 d", 5, 0, 6, 0, "x", SOME},
+    {"a letter after a PDI before a space", "a \u2067bc\u2069 d", 5, 0, 6, 0, "x", PARAGRAPH},
     {"a letter after a PDI deleted before a letter", "a\u2067\u05d0\u2069bc", 5, 0, 4, 1, "", NOTHING},
-    {"an RLI beside an RLI", "a \u2067bc\u2069 d", 5, 0, 3, 0, "\u2067", SOME},
-    {"a PDI beside a PDI", "a \u2067bc\u2069 d", 5, 0, 6, 0, "\u2069", SOME},
+    {"an RLI beside an RLI", "a \u2067bc\u2069 d", 5, 0, 3, 0, "\u2067", PARAGRAPH},
+    {"a PDI beside a PDI", "a \u2067bc\u2069 d", 5, 0, 6, 0, "\u2069", PARAGRAPH},
     {"a letter in an RLE", "a \u202bb 1\u202c d", 5, 0, 4, 0, "x", NOTHING},
     {"a letter in an RLO", "a \u202eb 1\u202c d", 5, HORDGULI_REORDER_CLUSTERS, 4, 0, "x", NOTHING},
-    {"an RLE beside an RLE", "a \u202bb 1\u202c d", 5, 0, 3, 0, "\u202b", SOME},
-    {"a PDF beside a PDF", "a \u202bb 1\u202c d", 5, 0, 7, 0, "\u202c", SOME},
+    {"an RLE beside an RLE", "a \u202bb 1\u202c d", 5, 0, 3, 0, "\u202b", PARAGRAPH},
+    {"a PDF beside a PDF", "a \u202bb 1\u202c d", 5, 0, 7, 0, "\u202c", PARAGRAPH},
     /* At both ends of the paragraph and the text */
     {"the first letter", "ab cd", 4, 0, 0, 0, "x", NOTHING},
     {"the last letter", "ab cd", 4, 0, 5, 0, "x", NOTHING},
@@ -245,22 +262,22 @@ static const row rows[] = {
     {"the first space", "  ab cd", 4, HORDGULI_RTL, 0, 0, " ", NOTHING},
     {"the last space", "ab cd  ", 4, HORDGULI_RTL, 7, 0, " ", NOTHING},
     {"the first strong letter after a digit", "1 \u05d0b", 4, 0, 2, 0, "\u05d1", NOTHING},
-    {"another first strong letter", "1\u05d0b", 4, 0, 0, 0, "x", SOME},
-    {"the only letter deleted", "a", 4, 0, 0, 1, "", SOME},
+    {"another first strong letter", "1\u05d0b", 4, 0, 0, 0, "x", PARAGRAPH},
+    {"the only letter deleted", "a", 4, 0, 0, 1, "", PARAGRAPH},
     {"a letter before a letter before LF", "ab\n\u05d0\u05d1", 4, 0, 1, 0, "x", NOTHING},
     {"a letter after a letter before LF", "ab\n\u05d0\u05d1", 4, 0, 2, 0, "x", NOTHING},
-    {"the first letter after LF", "ab\n\u05d0\u05d1", 4, 0, 3, 0, "\u05d2", SOME},
+    {"the first letter after LF", "ab\n\u05d0\u05d1", 4, 0, 3, 0, "\u05d2", PARAGRAPH},
     {"the second letter after LF", "ab\n\u05d0\u05d1", 4, 0, 4, 0, "\u05d2", NOTHING},
-    {"the first letter after LF deleted", "ab\n\u05d0\u05d1", 4, 0, 3, 1, "", SOME},
+    {"the first letter after LF deleted", "ab\n\u05d0\u05d1", 4, 0, 3, 1, "", PARAGRAPH},
     {"the last letter before LF deleted", "ab\n\u05d0\u05d1", 4, 0, 1, 1, "", NOTHING},
-    {"the only letter before LF deleted", "a\n\u05d0\u05d1", 4, 0, 0, 1, "", SOME},
-    {"all letters before LF replaced", "ab\n\u05d0\u05d1", 4, 0, 0, 2, "xyz", SOME},
-    {"a letter after a last LF", "ab\n", 4, 0, 3, 0, "c", SOME},
-    {"LF beside LF", "ab\n\u05d0\u05d1", 4, 0, 3, 0, "\n", SOME},
-    {"LF between letters", "abcd", 4, 0, 2, 0, "\n", SOME},
-    {"LF deleted between letters", "ab\ncd", 4, 0, 2, 1, "", SOME},
+    {"the only letter before LF deleted", "a\n\u05d0\u05d1", 4, 0, 0, 1, "", PARAGRAPH},
+    {"all letters before LF replaced", "ab\n\u05d0\u05d1", 4, 0, 0, 2, "xyz", PARAGRAPH},
+    {"a letter after a last LF", "ab\n", 4, 0, 3, 0, "c", PARAGRAPH},
+    {"LF beside LF", "ab\n\u05d0\u05d1", 4, 0, 3, 0, "\n", PARAGRAPH},
+    {"LF between letters", "abcd", 4, 0, 2, 0, "\n", PARAGRAPH},
+    {"LF deleted between letters", "ab\ncd", 4, 0, 2, 1, "", PARAGRAPH},
     {"a letter beside U+2028", "ab\u2028cd", 4, 0, 3, 0, "x", NOTHING},
-    {"U+2028 beside U+2028", "ab\u2028cd", 4, 0, 3, 0, "\u2028", SOME},
+    {"U+2028 beside U+2028", "ab\u2028cd", 4, 0, 3, 0, "\u2028", PARAGRAPH},
     {"a letter beside U+2029 that ends a line", "ab\u2029cd", 4, HORDGULI_LINE_SEPARATORS, 3, 0, "x", NOTHING},
     /* The first and the last letter of a line */
     {"the first letter of a line", "abc def ghi", 5, 0, 4, 0, "x", NOTHING},
@@ -272,7 +289,7 @@ static const row rows[] = {
     {"a short first word of a line deleted but for a letter", "abc de fghi", 4, 0, 4, 1, "", NOTHING},
     {"a letter after a tab at the start of a line", "abc\tdef ghi", 5, HORDGULI_TAB_WIDTH(4), 4, 0, "x", NOTHING},
     {"a letter before a tab", "abc\tdef ghi", 9, HORDGULI_TAB_WIDTH(4), 3, 0, "x", NOTHING},
-    {"a tab beside a tab", "abc\tdef ghi", 9, HORDGULI_TAB_WIDTH(4), 4, 0, "\t", SOME},
+    {"a tab beside a tab", "abc\tdef ghi", 9, HORDGULI_TAB_WIDTH(4), 4, 0, "\t", PARAGRAPH},
     /* A word that wraps, and one that fits */
     {"a word wraps", "abc def gh", 7, 0, 7, 0, "x", NOTHING},
     {"a word fits", "abc defx gh", 7, 0, 7, 1, "", NOTHING},
@@ -289,57 +306,67 @@ static const row rows[] = {
     {"a space after spaces at a line's end", "abcd   efgh", 4, HORDGULI_SHOW_SPACES, 7, 0, " ", NOTHING},
     {"a shown space at a line's end", "ab cdefgh", 5, HORDGULI_SHOW_SPACES, 3, 0, " ", NOTHING},
     {"a space deleted at a line's end", "abcd  efgh", 4, HORDGULI_SHOW_SPACES, 4, 1, "", NOTHING},
-    {"the only space at a line's end deleted", "abcd efgh", 4, 0, 4, 1, "", SOME},
-    {"a space between letters", "abcdefgh", 4, 0, 4, 0, " ", SOME},
+    {"the only space at a line's end deleted", "abcd efgh", 4, 0, 4, 1, "", PARAGRAPH},
+    {"a space between letters", "abcdefgh", 4, 0, 4, 0, " ", PARAGRAPH},
     {"a space at an RTL line's end", "\u05d0\u05d1\u05d2\u05d3 \u05d4", 4, HORDGULI_SHOW_SPACES, 5, 0, " ", NOTHING},
     {"a space at the end of a right-aligned line", "ab \u05d0 cd", 5, HORDGULI_RTL | HORDGULI_SHOW_SPACES, 5, 0, " ", NOTHING},
-    {"a no-break space beside one", "ab\u00a0cd", 4, 0, 3, 0, "\u00a0", SOME},
+    {"a no-break space beside one", "ab\u00a0cd", 4, 0, 3, 0, "\u00a0", PARAGRAPH},
     /* ID between ID */
     {"ID between ID", "\u4e00\u4e01\u4e02\u4e03", 4, 0, 2, 0, "\u4e04", NOTHING},
     {"ID between ID at an odd width", "\u4e00\u4e01\u4e02\u4e03", 5, 0, 1, 0, "\u4e04\u4e05", NOTHING},
     {"ID deleted between ID", "\u4e00\u4e01\u4e02\u4e03", 4, 0, 1, 1, "", NOTHING},
     {"a kana between ID", "\u4e00\u4e01", 4, 0, 1, 0, "\u3044", NOTHING},
-    {"a letter between ID", "\u4e00\u4e01", 4, 0, 1, 0, "x", SOME},
-    {"ID between letters", "ab", 4, 0, 1, 0, "\u4e00", SOME},
-    {"a full stop between ID", "\u4e00\u4e01", 4, 0, 1, 0, "\u3002", SOME},
+    {"a letter between ID", "\u4e00\u4e01", 4, 0, 1, 0, "x", PARAGRAPH},
+    {"ID between letters", "ab", 4, 0, 1, 0, "\u4e00", PARAGRAPH},
+    {"a full stop between ID", "\u4e00\u4e01", 4, 0, 1, 0, "\u3002", PARAGRAPH},
     {"an ideograph before a full stop", "\u4e00\u4e01\u3002\u4e02", 4, 0, 2, 0, "\u4e03", NOTHING},
     {"a star emoji between two", "\U0001f31f\U0001f31f", 4, 0, 1, 0, "\U0001f31f", NOTHING},
-    {"an emoji between ID", "\u4e00\u4e01", 4, 0, 1, 0, "\U0001f31f", SOME},
-    {"an emoji base beside one", "\U0001f468\U0001f468", 4, 0, 1, 0, "\U0001f469", SOME},
+    {"an emoji between ID", "\u4e00\u4e01", 4, 0, 1, 0, "\U0001f31f", PARAGRAPH},
+    {"a narrow emoji between wide ones", "\U0001f31f\U0001f31f", 4, 0, 1, 0, "\u2600", PARAGRAPH},
+    {"a narrow emoji between narrow ones", "\u2600\u2600", 4, 0, 1, 0, "\u2601", NOTHING},
+    {"an unassigned pictograph beside one", "\U0001f02c\U0001f02d", 4, 0, 1, 0, "\U0001f02e", NOTHING},
+    {"an emoji base beside one", "\U0001f468\U0001f468", 4, 0, 1, 0, "\U0001f469", PARAGRAPH},
     {"a dotted circle beside one", "a \u25cc\u25cc b", 4, 0, 3, 0, "\u25cc", SINCE_17},
     /* A cluster that the edit splits or joins */
-    {"a leading jamo beside one", "\u1100\u1161\u1100", 4, 0, 1, 0, "\u1100", SOME},
-    {"a vowel jamo beside one", "\u1100\u1161\u1161", 4, 0, 2, 0, "\u1161", SOME},
-    {"a trailing jamo beside one", "\u1100\u1161\u11a8", 4, 0, 3, 0, "\u11a8", SOME},
-    {"a letter between jamo", "\u1100\u1161", 4, 0, 1, 0, "x", SOME},
-    {"a Hangul syllable beside one", "\uac00\uac00", 4, 0, 1, 0, "\uac00", SOME},
+    {"a leading jamo beside one", "\u1100\u1161\u1100", 4, 0, 1, 0, "\u1100", PARAGRAPH},
+    {"a vowel jamo beside one", "\u1100\u1161\u1161", 4, 0, 2, 0, "\u1161", PARAGRAPH},
+    {"a trailing jamo beside one", "\u1100\u1161\u11a8", 4, 0, 3, 0, "\u11a8", PARAGRAPH},
+    {"a letter between jamo", "\u1100\u1161", 4, 0, 1, 0, "x", PARAGRAPH},
+    {"a Hangul syllable beside one", "\uac00\uac00", 4, 0, 1, 0, "\uac00", PARAGRAPH},
     {"a consonant between a consonant and a virama", "\u0915\u094d\u0937 \u0915", 3, 0, 1, 0, "\u0916", NOTHING},
     {"a consonant between a virama and a consonant", "\u0915\u094d\u0937 \u0915", 3, 0, 2, 0, "\u0916", NOTHING},
     {"a consonant before a consonant with a virama", "\u0915\u094d\u0937 \u0915", 1, 0, 0, 0, "\u0916", NOTHING},
     {"a consonant before a virama deleted", "\u0916\u0915\u094d\u0937 \u0915", 3, 0, 1, 1, "", NOTHING},
     {"a consonant after a virama deleted", "\u0915\u094d\u0916\u0937 \u0915", 3, 0, 2, 1, "", NOTHING},
-    {"the only consonant after a virama deleted", "\u0915\u094d\u0937 \u0915", 3, 0, 2, 1, "", SOME},
+    {"the only consonant after a virama deleted", "\u0915\u094d\u0937 \u0915", 3, 0, 2, 1, "", PARAGRAPH},
     {"a letter after a virama before a consonant", "\u0915\u094d\u0937 \u0915", 1, 0, 2, 0, "x", NOTHING},
-    {"a virama beside a virama", "\u0915\u094d\u0937 \u0915", 3, 0, 2, 0, "\u094d", SOME},
+    {"a virama beside a virama", "\u0915\u094d\u0937 \u0915", 3, 0, 2, 0, "\u094d", PARAGRAPH},
     {"a consonant in an RLO", "\u202e\u0915\u094d\u0937 \u0915", 3, HORDGULI_REORDER_CLUSTERS, 3, 0, "\u0916", NOTHING},
     {"a Malayalam dot reph before a letter", "ab\u0d15\u0d15", 2, 0, 3, 0, "\u0d4e", NOTHING},
     {"an emoji after a ZWJ before an emoji", "\U0001f31f\u200d\U0001f31f", 4, 0, 2, 0, "\U0001f31f", NOTHING},
     {"an emoji before a ZWJ after an emoji", "\U0001f31f\u200d\U0001f31f", 4, 0, 1, 0, "\U0001f31f", NOTHING},
-    {"a ZWJ beside a ZWJ", "\U0001f31f\u200d\U0001f31f", 4, 0, 2, 0, "\u200d", SOME},
-    {"a regional indicator beside one", "\U0001f1e9\U0001f1ea", 4, 0, 1, 0, "\U0001f1ea", SOME},
+    {"a ZWJ beside a ZWJ", "\U0001f31f\u200d\U0001f31f", 4, 0, 2, 0, "\u200d", PARAGRAPH},
+    {"a regional indicator beside one", "\U0001f1e9\U0001f1ea", 4, 0, 1, 0, "\U0001f1ea", PARAGRAPH},
     {"a letter beside a soft hyphen", "ab\u00adcd", 3, 0, 3, 0, "x", NOTHING},
-    {"a soft hyphen beside one", "ab\u00adcd", 3, 0, 3, 0, "\u00ad", SOME},
+    {"a soft hyphen beside one", "ab\u00adcd", 3, 0, 3, 0, "\u00ad", PARAGRAPH},
 };
 enum { ROWS = sizeof rows / sizeof *rows };
 
 /* Where the row's text is: alone, between two other paragraphs, or in a paragraph that is longer than 32 times the width */
 enum { ALONE, AMONG, AT_START, IN_MIDDLE, AT_END, PLACES };
 
+static const uint32_t newline = '\n';
 static const char *const place_names[] = {"alone", "among paragraphs", "at the start", "in the middle", "at the end"};
 
-/* Words between which lines end. A character beside the row's text is of no kind that a row inserts there. */
-static const char *const words_of_fillers[] = {"lo ip, a do sit am, ", "\u05e9\u05dc 12 \u05e2\u05d5\u05dd (a) \u05e2\u05dc, "};
-enum { FILLERS = sizeof words_of_fillers / sizeof *words_of_fillers };
+/* Words between which lines end, and the characters between them and the row's text. No row inserts characters of the kind of these. */
+static const struct {
+    const char *words;
+    uint32_t before, after;
+} fillers[] = {
+    {"lo ip, a do sit am, ", 0x2028, '!'},
+    {"\u05e9\u05dc 12 \u05e2\u05d5\u05dd (a) \u05e2\u05dc, ", '!', 0x2028},
+};
+enum { FILLERS = sizeof fillers / sizeof *fillers };
 
 /* Options in addition to those of the row. A row's direction takes precedence. */
 static const uint32_t more_options[] = {
@@ -357,7 +384,7 @@ static long in_long, filled_whole;
 static void edit_row(const row *of, size_t start) {
     uint32_t inserted[PIECE], removed[PIECE];
     size_t added = decoded(of->inserted, inserted), pos = start + of->pos;
-    int analysed = of->analysed != SINCE_17 ? of->analysed : is_17 ? SOME : NOTHING;
+    int analysed = of->analysed != SINCE_17 ? of->analysed : is_17 ? PARAGRAPH : NOTHING;
     hordguli_work work, worked;
     memcpy(removed, text + pos, of->removed * sizeof *text);
     open_on_text(&kept);
@@ -372,27 +399,30 @@ static void edit_row(const row *of, size_t start) {
     hordguli_session_close(&kept);
 }
 
+/* Appends words of a filler. */
+static void append_words(size_t filler, size_t at_least) {
+    uint32_t piece[PIECE];
+    size_t count = decoded(fillers[filler].words, piece), first = length;
+    while (length - first < at_least) append(piece, count);
+}
+
 static void test_row(const row *of, int place, size_t filler, uint32_t more) {
-    static uint32_t own[PIECE], fill[FILLER + PIECE];
-    static const uint32_t newline[] = {'!', '\n'}, mark[] = {'!'};
-    const uint32_t *parts[5];
-    size_t lengths[5], count = 0, own_length = decoded(of->text, own), filled = 0, start;
+    uint32_t own[PIECE];
+    size_t own_length = decoded(of->text, own), start, fill = place >= AT_START ? FILLER : 20;
     long failures = failed;
-    int is_long = place >= AT_START, has_before = place != ALONE && place != AT_START, has_after = place != ALONE && place != AT_END;
-    while (filled < (is_long ? FILLER : 20)) filled += decoded(words_of_fillers[filler], fill + filled);
-    if (has_before) {
-        parts[count] = fill, lengths[count++] = filled;
-        parts[count] = newline, lengths[count++] = is_long ? 1 : 2;
+    length = 0;
+    if (place != ALONE && place != AT_START) {
+        append_words(filler, fill);
+        append(place == AMONG ? &newline : &fillers[filler].before, 1);
     }
-    parts[count] = own, lengths[count++] = own_length;
-    if (has_after) {
-        parts[count] = is_long ? mark : newline, lengths[count++] = is_long ? 1 : 2;
-        parts[count] = fill, lengths[count++] = filled;
+    start = length;
+    append(own, own_length);
+    if (place != ALONE && place != AT_END) {
+        append(place == AMONG ? &newline : &fillers[filler].after, 1);
+        append_words(filler, fill);
     }
-    start = has_before ? lengths[0] + lengths[1] : 0;
     options = of->options | (of->options & DIRECTIONS ? more & ~(uint32_t)DIRECTIONS : more);
     width = is_measured ? of->width * 8 : of->width;
-    set_text(parts, lengths, count);
     edit_row(of, start);
     if (failed != failures)
         fprintf(stderr, "row: %s, %s, filler %zu, options %08X%s\n", of->name, place_names[place], filler, (unsigned)options, is_measured ? ", measured" : "");
@@ -420,11 +450,11 @@ static void is_refused(hordguli_status status, hordguli_status wanted, const hor
     hordguli_changed still = {7, 7, 7};
     HOLDS(status == wanted && memcmp(damage, &unset, sizeof unset) == 0);
     take(&kept, own_advances(), &now);
-    HOLDS(memcmp(&now, &before.lines, sizeof now) == 0);
+    HOLDS(memcmp(&now, &old.lines, sizeof now) == 0);
     OK(hordguli_session_counts(&kept, &counts));
     OK(hordguli_session_work(&kept, &work));
     OK(hordguli_changed_lines(&kept, &still));
-    HOLDS(memcmp(&counts, &before.counts, sizeof counts) == 0 && memcmp(&work, &before.work, sizeof work) == 0);
+    HOLDS(memcmp(&counts, &old.counts, sizeof counts) == 0 && memcmp(&work, &old.work, sizeof work) == 0);
     HOLDS(memcmp(&still, changed, sizeof still) == 0);
 }
 
@@ -442,11 +472,10 @@ static void refuses(size_t pos, size_t removed, size_t size, const char *inserte
 /* Tries run edits that are not valid, in a short text. */
 static void short_text_refuses(void) {
     static const uint32_t piece[] = {'b', 'c', ' ', 'a', 'a', '\n', 0x5D0};
-    const uint32_t *part = piece;
-    size_t count = sizeof piece / sizeof *piece;
     options = HORDGULI_SHOW_SPACES;
     width = is_measured ? 20 : 3;
-    set_text(&part, &count, 1);
+    length = 0;
+    append(piece, sizeof piece / sizeof *piece);
     open_on_text(&kept);
     edit_and_compare(0, 0, (const uint32_t[]){'a'}, 1, NOTHING);
     refuses(length + 1, 0, 1, "a", HORDGULI_OUT_OF_RANGE);
@@ -486,11 +515,10 @@ static void longest_paragraph_refuses(void) {
 /* Sets advances whose sum is as large as possible, next to a run edit. */
 static void largest_advances_are_refused(void) {
     static const uint32_t piece[] = {'a', 'b', ' ', 'c', '\n', 'd'}, wide[] = {UINT32_MAX - 3}, wider[] = {UINT32_MAX, 1};
-    const uint32_t *part = piece;
-    size_t count = sizeof piece / sizeof *piece;
     hordguli_damage damage = {7, 7, 7, 7, 7, 7};
     hordguli_changed changed = {0, 0, 0};
-    set_text(&part, &count, 1);
+    length = 0;
+    append(piece, sizeof piece / sizeof *piece);
     for (size_t k = 0; k < length; k++) advances[k] = 1;
     width = 3;
     open_on_text(&kept);
