@@ -4,6 +4,7 @@
  *
  * - Makes each edit of a list, and its inverse, in short and long paragraphs and in measured text. A row states whether the edit
  *   analyses the paragraph.
+ * - Pastes and deletes 100,000 characters of each kind.
  * - Checks that refused edits change nothing.
  * - Edits SESSIONS random sessions. Most edits double or erase a character. */
 #include "answers.h"
@@ -11,7 +12,7 @@
 #include "same_sessions.h"
 #include "snapshot.h"
 
-enum { PARAGRAPH_LIMIT = 1 << 20, TEXT_LIMIT = 1 << 24, FILLER = 320, PIECE = 64, DIRECTIONS = 0x3000003, TAB_BITS = 0xFF00 };
+enum { PARAGRAPH_LIMIT = 1 << 20, TEXT_LIMIT = 1 << 24, FILLER = 320, PIECE = 64, PASTE = 100000, DIRECTIONS = 0x3000003, TAB_BITS = 0xFF00 };
 
 static hordguli_tables tables = HORDGULI_TABLES_INIT;
 static hordguli_session kept = HORDGULI_SESSION_INIT;
@@ -76,16 +77,16 @@ static struct {
     hordguli_counts counts;
     hordguli_work work;
     hordguli_damage damage;
-} old;
+} earlier;
 
 /* Keeps the state before a call that replaces the paragraphs whose spans, with both ends, intersect a range. */
 static void begin(size_t pos, size_t end) {
-    hordguli_damage *damage = &old.damage;
+    hordguli_damage *damage = &earlier.damage;
     memset(damage, 0, sizeof *damage);
-    take(&kept, own_advances(), &old.lines);
-    OK(hordguli_session_counts(&kept, &old.counts));
-    OK(hordguli_session_work(&kept, &old.work));
-    for (size_t paragraph = 0; paragraph < old.counts.paragraphs; paragraph++) {
+    take(&kept, own_advances(), &earlier.lines);
+    OK(hordguli_session_counts(&kept, &earlier.counts));
+    OK(hordguli_session_work(&kept, &earlier.work));
+    for (size_t paragraph = 0; paragraph < earlier.counts.paragraphs; paragraph++) {
         hordguli_paragraph_info info;
         OK(hordguli_paragraph(&kept, paragraph, &info, 0, NULL, NULL));
         if (info.start > end || info.start + info.length < pos) continue;
@@ -110,26 +111,26 @@ static void end(const hordguli_damage *damage, int analysed) {
     static snapshot now;
     hordguli_counts counts;
     hordguli_work work;
-    hordguli_damage *wanted = &old.damage;
+    hordguli_damage *wanted = &earlier.damage;
     take(&kept, own_advances(), &now);
     OK(hordguli_session_counts(&kept, &counts));
     OK(hordguli_session_work(&kept, &work));
-    wanted->new_lines = wanted->old_lines + counts.lines - old.counts.lines;
-    wanted->new_paragraphs = wanted->old_paragraphs + counts.paragraphs - old.counts.paragraphs;
+    wanted->new_lines = wanted->old_lines + counts.lines - earlier.counts.lines;
+    wanted->new_paragraphs = wanted->old_paragraphs + counts.paragraphs - earlier.counts.paragraphs;
     HOLDS(memcmp(damage, wanted, sizeof *damage) == 0);
-    lines_were_replaced(&old.lines, &now, damage->first_line, damage->old_lines, damage->new_lines);
-    changed_lines_are_right(&kept, &old.lines, &now, damage);
-    HOLDS(work.filled - old.work.filled <= counts.characters && work.written - old.work.written <= counts.characters);
-    HOLDS(analysed == ANY || work.analysed - old.work.analysed == (analysed == PARAGRAPH ? new_characters(damage) : 0));
+    lines_were_replaced(&earlier.lines, &now, damage->first_line, damage->old_lines, damage->new_lines);
+    changed_lines_are_right(&kept, &earlier.lines, &now, damage);
+    HOLDS(work.filled - earlier.work.filled <= counts.characters && work.written - earlier.work.written <= counts.characters);
+    HOLDS(analysed == ANY || work.analysed - earlier.work.analysed == (analysed == PARAGRAPH ? new_characters(damage) : 0));
 }
 
 /* Makes an edit in the session and in the text. An edit that touches several paragraphs analyses them. */
 static void edit(size_t pos, size_t removed, const uint32_t *piece, size_t added, int analysed) {
-    char piece_bytes[PIECE * 4];
+    static char piece_bytes[PASTE * 4];
     size_t size = encoded(piece, added, piece_bytes);
     hordguli_damage damage = {7, 7, 7, 7, 7, 7};
     begin(pos, pos + removed);
-    if (analysed == NOTHING && old.damage.old_paragraphs != 1) analysed = PARAGRAPH;
+    if (analysed == NOTHING && earlier.damage.old_paragraphs != 1) analysed = PARAGRAPH;
     if (added == 0) OK(hordguli_delete(&kept, pos, removed, &damage));
     else if (removed == 0) OK(hordguli_insert(&kept, pos, piece_bytes, size, &damage));
     else OK(hordguli_replace(&kept, pos, removed, piece_bytes, size, &damage));
@@ -437,6 +438,26 @@ static void test_rows(void) {
     HOLDS(filled_whole < in_long / 2);
 }
 
+/* Pastes many characters of each kind into a word, and deletes them. Until they are measured, they are in one line. */
+static void test_pastes(void) {
+    static uint32_t paste[PASTE];
+    options = 0;
+    for (size_t kind = 0; kind < KINDS; kind++) {
+        for (size_t k = 0; k < PASTE; k++) paste[k] = one_of_kind(kind);
+        for (is_measured = 0; is_measured < 2; is_measured++) {
+            size_t count = is_measured ? SNAPSHOT_CHARACTERS / 2 : PASTE;
+            width = is_measured ? 800 : 1000;
+            length = 0;
+            append((const uint32_t[]){'$', paste[2], paste[1], ')', 0x5D0}, 5);
+            open_on_text(&kept);
+            edit_and_compare(2, 0, paste, count, NOTHING);
+            edit_and_compare(3, count / 2, paste, count / 3, NOTHING);
+            edit_and_compare(2, length - 5, paste, 0, NOTHING);
+            hordguli_session_close(&kept);
+        }
+    }
+}
+
 /* ---- Refused edits ---- */
 
 static char letters[TEXT_LIMIT];
@@ -450,11 +471,11 @@ static void is_refused(hordguli_status status, hordguli_status wanted, const hor
     hordguli_changed still = {7, 7, 7};
     HOLDS(status == wanted && memcmp(damage, &unset, sizeof unset) == 0);
     take(&kept, own_advances(), &now);
-    HOLDS(memcmp(&now, &old.lines, sizeof now) == 0);
+    HOLDS(memcmp(&now, &earlier.lines, sizeof now) == 0);
     OK(hordguli_session_counts(&kept, &counts));
     OK(hordguli_session_work(&kept, &work));
     OK(hordguli_changed_lines(&kept, &still));
-    HOLDS(memcmp(&counts, &old.counts, sizeof counts) == 0 && memcmp(&work, &old.work, sizeof work) == 0);
+    HOLDS(memcmp(&counts, &earlier.counts, sizeof counts) == 0 && memcmp(&work, &earlier.work, sizeof work) == 0);
     HOLDS(memcmp(&still, changed, sizeof still) == 0);
 }
 
@@ -548,13 +569,13 @@ static void test_refused_edits(void) {
 
 /* Makes a text of words of one kind or several, with spaces and other characters between them. */
 static void make_text(void) {
-    size_t only = below(2 * KINDS), is_long = below(8) == 0, wanted = is_long ? 300 + below(1000) : below(40);
+    size_t only = below(2 * KINDS), is_long = below(4) == 0, wanted = is_long ? 300 + below(500) : below(40);
     length = 0;
     while (length < wanted) {
         size_t kind = only < KINDS ? only : below(KINDS);
         for (size_t left = below(6); left > 0; left--) text[length++] = one_of_kind(kind);
-        if (below(is_long ? 30 : 3) == 0) length += decoded(text_pieces[below(TEXT_PIECES)], text + length);
-        if (below(3) != 0) text[length++] = ' ';
+        if (below(is_long ? 50 : 3) == 0) length += decoded(text_pieces[below(TEXT_PIECES)], text + length);
+        if (below(is_long ? 20 : 3) != 0) text[length++] = ' ';
     }
     for (size_t k = 0; k < length; k++) advances[k] = advance_of(text[k]);
 }
@@ -596,10 +617,15 @@ static void set_width(void) {
 }
 
 static void change(void) {
-    size_t pos = below(length + 1);
-    if (below(16) == 0) set_width();
-    else if (is_measured && below(6) == 0) measure(pos, below(length - pos + 1));
-    else if (length + PIECE > SNAPSHOT_CHARACTERS || below(5) == 0 || !edit_run()) edit_anything();
+    size_t pos = below(length + 1), tries = below(5) == 0 ? 0 : 8;
+    if (below(16) == 0) {
+        set_width();
+    } else if (is_measured && below(6) == 0) {
+        measure(pos, below(length - pos + 1));
+    } else {
+        while (tries > 0 && !edit_run()) tries--;
+        if (tries == 0) edit_anything();
+    }
 }
 
 static void test_sessions(long count) {
@@ -626,6 +652,7 @@ int main(int count, char **words) {
     is_17 = count == 4;
     if (!OK(hordguli_tables_open_folder_version(&tables, is_17 ? HORDGULI_UNICODE_17_0 : HORDGULI_UNICODE_15_0, words[1], NULL))) return finish("run_edits");
     test_rows();
+    test_pastes();
     test_refused_edits();
     test_sessions(atol(words[2]));
     hordguli_tables_close(&tables);

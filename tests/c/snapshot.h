@@ -5,7 +5,7 @@
 enum { SNAPSHOT_LINES = 1600, SNAPSHOT_CHARACTERS = 1600 };
 
 /* For each line, what `hordguli_line` stores in `*info`, but without the start and the padding, and a hash of
- * its characters, levels, maps, columns and advances. */
+ * its characters, levels, maps, columns and advances. The other lines are zero, also before the first snapshot is taken. */
 typedef struct snapshot {
     struct {
         hordguli_line_info info;
@@ -22,8 +22,8 @@ static void take(hordguli_session *of, const uint32_t *advances, snapshot *into)
     static uint8_t line_levels[SNAPSHOT_CHARACTERS];
     static size_t columns[SNAPSHOT_CHARACTERS];
     hordguli_counts counts = {0, 0, 0, 0};
-    memset(into, 0, sizeof *into);
     HOLDS(hordguli_session_counts(of, &counts) == HORDGULI_OK && counts.lines <= SNAPSHOT_LINES);
+    memset(into->lines, 0, (into->count > counts.lines ? into->count : counts.lines) * sizeof *into->lines);
     into->count = counts.lines;
     for (size_t line = 0; line < counts.lines; line++) {
         uint64_t hash = 0xCBF29CE484222325;
