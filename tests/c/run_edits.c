@@ -60,7 +60,7 @@ static void equals_new_session(void) {
         size_t count;
         same_lines(&kept, &anew, &counts);
         same_pages(&kept, &anew, &counts, HORDGULI_PRINT_DEFAULT);
-        same_places(&kept, &anew, &counts);
+        if (below(3) == 0) same_places(&kept, &anew, &counts);
         OK(hordguli_text_utf32(&kept, 0, length, PARAGRAPH_LIMIT, characters, &count));
         if (length <= 40 && (options & TAB_BITS) == 0 && below(4) == 0) answers_are_equal(&kept, &anew, length);
         HOLDS(count == length && memcmp(characters, text, length * sizeof *text) == 0);
@@ -206,6 +206,9 @@ static const row rows[] = {
     {"a digit of a whole number", "$(1,200)", 4, HORDGULI_WHOLE_NUMBERS, 3, 0, "4", NOTHING},
     {"a digit between ET and EN", "\u05d0 $12 cd", 6, 0, 3, 0, "3", NOTHING},
     {"a digit between EN and ET", "\u05d0 12% cd", 6, 0, 4, 0, "3", NOTHING},
+    {"a number sign between ET and EN", "\u05d0 #12 cd", 6, 0, 3, 0, "#", NOTHING},
+    {"an equals sign between ON and EN", "\u05d0 =12 cd", 6, 0, 3, 0, "=", NOTHING},
+    {"a number sign between ON and EN", "\u05d0 =12 cd", 6, 0, 3, 0, "#", PARAGRAPH},
     {"PR between ET and EN", "\u05d0 $12 cd", 6, 0, 3, 0, "$", PARAGRAPH},
     {"PO after ET", "\u05d0 12% cd", 6, 0, 5, 0, "%", PARAGRAPH},
     {"a letter between ET and EN", "\u05d0 $12 cd", 6, 0, 3, 0, "x", PARAGRAPH},
@@ -264,6 +267,7 @@ static const row rows[] = {
     {"the last space", "ab cd  ", 4, HORDGULI_RTL, 7, 0, " ", NOTHING},
     {"the first strong letter after a digit", "1 \u05d0b", 4, 0, 2, 0, "\u05d1", NOTHING},
     {"another first strong letter", "1\u05d0b", 4, 0, 0, 0, "x", PARAGRAPH},
+    {"a letter in an empty text", "", 4, 0, 0, 0, "x", PARAGRAPH},
     {"the only letter deleted", "a", 4, 0, 0, 1, "", PARAGRAPH},
     {"a letter before a letter before LF", "ab\n\u05d0\u05d1", 4, 0, 1, 0, "x", NOTHING},
     {"a letter after a letter before LF", "ab\n\u05d0\u05d1", 4, 0, 2, 0, "x", NOTHING},
@@ -435,7 +439,7 @@ static void test_rows(void) {
             for (size_t filler = 0; filler < (place == ALONE ? 1 : FILLERS); filler++)
                 for (size_t more = 0; more < MORE_OPTIONS; more++)
                     for (is_measured = 0; is_measured < 2; is_measured++) test_row(&rows[k], place, filler, more_options[more]);
-    HOLDS(filled_whole < in_long / 2);
+    HOLDS(filled_whole < in_long / 3);
 }
 
 /* Pastes many characters of each kind into a word, and deletes them. Until they are measured, they are in one line. */
@@ -569,7 +573,7 @@ static void test_refused_edits(void) {
 
 /* Makes a text of words of one kind or several, with spaces and other characters between them. */
 static void make_text(void) {
-    size_t only = below(2 * KINDS), is_long = below(4) == 0, wanted = is_long ? 300 + below(500) : below(40);
+    size_t only = below(2 * KINDS), is_long = below(5) == 0, wanted = is_long ? 300 + below(500) : below(40);
     length = 0;
     while (length < wanted) {
         size_t kind = only < KINDS ? only : below(KINDS);
