@@ -1,12 +1,13 @@
 /* Measures opening and closing a session on a string of 30 characters, and FriBidi's log2vis on the same
  * characters. Prints the processor time of both per string, the minimum of nine alternating runs, and their
- * ratio. With WHICH, only runs one of the two, on all strings of a kind, ROUNDS times, so that another
+ * ratio, and how many bytes of malloc a session keeps. With WHICH, only runs one of the two, on all strings of a kind, ROUNDS times, so that another
  * program can count its instructions. Usage: open FOLDER [WHICH KIND ROUNDS], where FOLDER has the table
  * files and WHICH is 0 for the session or 1 for log2vis. */
 #define _POSIX_C_SOURCE 200809L
 #include "strings.h"
 #include <fribidi/fribidi.h>
 #include <hordguli.h>
+#include <malloc.h>
 #include <stdio.h>
 #include <stdlib.h>
 #include <time.h>
@@ -47,6 +48,17 @@ static void log2vis(size_t k) {
     sure_of(fribidi_log2vis(characters[k], CHARACTERS, &base, visual, NULL, NULL, NULL) != 0, "log2vis");
 }
 
+/* Returns how many bytes a session on a string keeps, on average, as malloc counts them. */
+static size_t kept(void) {
+    static hordguli_session sessions[STRINGS];
+    size_t before = mallinfo2().uordblks, after;
+    for (size_t k = 0; k < STRINGS; k++)
+        sure_of(hordguli_session_open(&sessions[k], &tables, HORDGULI_WEAK_LTR, 80, strings[k], lengths[k]) == HORDGULI_OK, "no session");
+    after = mallinfo2().uordblks;
+    for (size_t k = 0; k < STRINGS; k++) hordguli_session_close(&sessions[k]);
+    return (after - before) / STRINGS;
+}
+
 static void call_all(int which) {
     for (size_t k = 0; k < STRINGS; k++) (which == 0 ? open_session : log2vis)(k);
 }
@@ -69,6 +81,9 @@ int main(int count, char **words) {
             }
             printf("%d characters, %s: opening and closing a session %.0f ns, FriBidi's log2vis %.0f ns, ratio %.2f (goal 3)\n", CHARACTERS, kinds[kind],
                    least[0], least[1], least[0] / least[1]);
+            size_t bytes = kept();
+            printf("%d characters, %s: a session keeps %zu bytes, %zu besides 32 for each character (goal 1024)\n", CHARACTERS, kinds[kind], bytes,
+                   bytes - 32 * (size_t)CHARACTERS);
         }
     }
     hordguli_tables_close(&tables);

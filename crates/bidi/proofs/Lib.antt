@@ -36,6 +36,7 @@ mod NoBracketLemmas
 mod OpenerLemmas
 mod OpenersLemmas
 pub mod LookedUpLemmas
+mod OverlapLemmas
 pub mod PairLemmas
 mod PartnerLemmas
 mod PiecesLemmas

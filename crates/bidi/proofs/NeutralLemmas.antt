@@ -400,6 +400,14 @@ step-level level rise type low =
     step-value level rise (implicit_level level type) (is_neutral type) (is_opposite level type) low
     (raises-by (level % 2 == 0) level (rise_even type) (rise_odd type)) (neutral-level level type)
 
+-- the same level, as the sum of the sequence's level and the second part of an entry
+pub step-lift : (level rise : ℕ) (type : BidiClass) → rise ≤ 1
+    → level + (((rise + turn level type) / 2 + above level type) - 1) ≡ implicit_level level type + (if (rise == 1) && is_neutral type then 1 else 0)
+step-lift level rise type low =
+    let sum = step-level level rise type low in
+    let raised : level ≤ implicit_level level type = raises-by (level % 2 == 0) level (rise_even type) (rise_odd type) in
+    omega (arith, sum, raised)
+
 pub beside-is : (level : ℕ) (type : BidiClass) → (beside level type == 1) ≡ is_opposite level type
 beside-is level type = bit-is (is_opposite level type)
 

@@ -1,21 +1,18 @@
--- Each entry of the tables for the neutral and implicit rules agrees with the rules.
+-- Each entry of the table for the neutral and implicit rules agrees with the rules.
 use Rattle.std.proofs.Common.{◌≡◌, ℕ, zero, suc, not, ◌+◌, ◌-◌, ◌*◌, ◌/◌, ◌%◌, ◌<◌, ◌≤◌, ◌==◌, Bool, true, false, get_or, map, refl, subst, sym, ap, ◌∙◌, arith, zero-add, if◌then◌else◌}
 use Rattle.std.specs.List.{range_with_len}
 use Rattle.std.proofs.lemmas.List.FromFn.{get_or-map-range_with_len}
 use Rattle.ucd.specs.Answers.{bidi_class_at, bidi_tag}
 use Rattle.ucd.specs.declared.bidi_class.BidiClass.{BidiClass}
 use Rattle.ucd.specs.declared.bidi_class.BidiClass.TheVariants.{L, R, EN, AN}
-use Rattle.bidi.specs.declared.neutral_table.TheConstants.{ABOVE, TURNS}
+use Rattle.bidi.specs.declared.neutral_table.TheConstants.{STEPS}
 use Rattle.bidi.specs.Neutral.{agree, is_neutral, rise_even, rise_odd}
-use Rattle.bidi.specs.Rows.{above, beside, is_opposite, turn}
+use Rattle.bidi.specs.Rows.{above, beside, is_opposite, row_of, rise_after, step, turn}
 use Rattle.bidi.specs.Weak.{is_left}
 use Rattle.bidi.proofs.WeakTableLemmas.{class-is, tag-below}
 
-turn-entries : TURNS ≡ map (λ i. turn (i / 32) (bidi_class_at (i % 32))) (range_with_len 0 64)
-turn-entries = refl
-
-above-entries : ABOVE ≡ map (λ i. above (i / 32) (bidi_class_at (i % 32))) (range_with_len 0 64)
-above-entries = refl
+entries : STEPS ≡ map (λ i. step (i / 64) (i / 32 % 2) (bidi_class_at (i % 32))) (range_with_len 0 128)
+entries = refl
 
 -- how far a type is raised above the neutrals next to it does not depend on the embedding level
 above-by : (level : ℕ) (even neutral : Bool) (rise odd_rise beside : ℕ)
@@ -26,31 +23,14 @@ above-by level true false rise odd_rise beside = omega arith
 above-by level false false rise odd_rise beside = omega arith
 
 module _ (level : ℕ) (class : BidiClass) where
-  place : (level % 2 * 32 + bidi_tag class) / 32 ≡ level % 2
-  place = let below = tag-below class in omega (arith, below)
-
-  symbol : (level % 2 * 32 + bidi_tag class) % 32 ≡ bidi_tag class
-  symbol = let below = tag-below class in omega (arith, below)
-
-  inside : level % 2 * 32 + bidi_tag class < 64
-  inside = omega (arith, tag-below class)
-
   same : level % 2 % 2 ≡ level % 2
   same = omega arith
 
   abbrev turn-at : ℕ → ℕ
   turn-at parity = if is_neutral class then 1 else (if not (agree (is_left (if parity == 1 then R else L)) (is_left class)) then 2 else 0)
 
-  pub turn-is : get_or TURNS (level % 2 * 32 + bidi_tag class) 0 ≡ turn level class
-  turn-is =
-      let at = level % 2 * 32 + bidi_tag class in
-      let f : ℕ → ℕ = λ i. turn (i / 32) (bidi_class_at (i % 32)) in
-      ap (λ xs. get_or xs at 0) turn-entries
-      ∙ get_or-map-range_with_len f 0 64 at at 0 inside (zero-add at)
-      ∙ ap (λ s. turn s (bidi_class_at (at % 32))) place
-      ∙ ap (λ k. turn (level % 2) (bidi_class_at k)) symbol
-      ∙ ap (turn (level % 2)) (class-is class)
-      ∙ ap turn-at same
+  turn-is : turn (level % 2) class ≡ turn level class
+  turn-is = ap turn-at same
 
   abbrev beside-at : ℕ → ℕ
   beside-at parity = if not (agree (is_left (if parity == 1 then R else L)) (is_left class)) then 1 else 0
@@ -58,18 +38,33 @@ module _ (level : ℕ) (class : BidiClass) where
   abbrev above-at : ℕ → ℕ
   above-at parity = if is_neutral class then 1 else (((if parity == 0 then rise_even class else rise_odd class) + 1) - beside-at parity)
 
-  pub above-is : get_or ABOVE (level % 2 * 32 + bidi_tag class) 0 ≡ above level class
+  above-is : above (level % 2) class ≡ above level class
   above-is =
-      let at = level % 2 * 32 + bidi_tag class in
-      let f : ℕ → ℕ = λ i. above (i / 32) (bidi_class_at (i % 32)) in
-      ap (λ xs. get_or xs at 0) above-entries
-      ∙ get_or-map-range_with_len f 0 64 at at 0 inside (zero-add at)
-      ∙ ap (λ s. above s (bidi_class_at (at % 32))) place
-      ∙ ap (λ k. above (level % 2) (bidi_class_at k)) symbol
-      ∙ ap (above (level % 2)) (class-is class)
-      ∙ above-by (level % 2) (level % 2 % 2 == 0) (is_neutral class) (rise_even class) (rise_odd class) (beside-at (level % 2 % 2))
+      above-by (level % 2) (level % 2 % 2 == 0) (is_neutral class) (rise_even class) (rise_odd class) (beside-at (level % 2 % 2))
       ∙ ap above-at same
       ∙ sym (above-by level (level % 2 == 0) (is_neutral class) (rise_even class) (rise_odd class) (beside-at (level % 2)))
+
+  abbrev step-at : ℕ → ℕ → ℕ → ℕ → ℕ
+  step-at parity rise turned lifted = (parity * 64 + (rise + turned) / 2 * 32) * 256 + (((rise + turned) / 2 + lifted) - 1)
+
+  pub step-is : (row : ℕ) → row ≡ row_of level (row / 32 % 2) → get_or STEPS (row + bidi_tag class) 0 ≡ step level (row / 32 % 2) class
+  step-is row is =
+      let at = row + bidi_tag class in
+      let f : ℕ → ℕ = λ i. step (i / 64) (i / 32 % 2) (bidi_class_at (i % 32)) in
+      let below = tag-below class in
+      let rise = row / 32 % 2 in
+      let parity : at / 64 ≡ level % 2 = omega (arith, below, is) in
+      let raised : at / 32 % 2 ≡ rise = omega (arith, below, is) in
+      let symbol : at % 32 ≡ bidi_tag class = omega (arith, below, is) in
+      ap (λ xs. get_or xs at 0) entries
+      ∙ get_or-map-range_with_len f 0 128 at at 0 (omega (arith, below, is)) (zero-add at)
+      ∙ ap (λ s. step s (at / 32 % 2) (bidi_class_at (at % 32))) parity
+      ∙ ap (λ r. step (level % 2) r (bidi_class_at (at % 32))) raised
+      ∙ ap (λ k. step (level % 2) rise (bidi_class_at k)) symbol
+      ∙ ap (step (level % 2) rise) (class-is class)
+      ∙ ap (λ p. step-at p rise (turn (level % 2) class) (above (level % 2) class)) same
+      ∙ ap (λ t. step-at (level % 2) rise t (above (level % 2) class)) turn-is
+      ∙ ap (step-at (level % 2) rise (turn level class)) above-is
 
 turn-bounded : (neutral is : Bool) → (if neutral then 1 else (if is then 2 else 0)) ≤ 2
 turn-bounded true is = omega arith
@@ -106,3 +101,22 @@ pub above-below : (level : ℕ) (class : BidiClass) → above level class ≤ 2
 above-below level class = subst (λ n. n ≤ 2)
     (sym (above-by level (level % 2 == 0) (is_neutral class) (rise_even class) (rise_odd class) (beside-at level class (level % 2))))
     (bounded-by (level % 2) (is_neutral class) (is_left class) (rise_even class) (rise_odd class) (omega arith) (even-bounded class) (odd-bounded class))
+
+pub step-below : (level row : ℕ) (class : BidiClass) → step level (row / 32 % 2) class % 256 ≤ 2
+step-below level row class =
+    let turned = turn-below level class in
+    let lifted = above-below level class in
+    omega (arith, turned, lifted)
+
+-- the parts of an entry
+pub row-next : (level rise : ℕ) (class : BidiClass) → rise ≤ 1 → step level rise class / 256 ≡ row_of level (rise_after level rise class)
+row-next level rise class low =
+    let turned = turn-below level class in
+    let lifted = above-below level class in
+    omega (arith, turned, lifted, low)
+
+pub lift-next : (level rise : ℕ) (class : BidiClass) → rise ≤ 1 → step level rise class % 256 ≡ (rise_after level rise class + above level class) - 1
+lift-next level rise class low =
+    let turned = turn-below level class in
+    let lifted = above-below level class in
+    omega (arith, turned, lifted, low)

@@ -1,5 +1,5 @@
 -- The state of the pass for the weak rules, in terms of the rows of the tables.
-use Rattle.std.proofs.Common.{◌≡◌, ℕ, ◌+◌, ◌*◌, ◌/◌, ◌%◌, ◌<◌, ◌≤◌, true, false, List, [], ◌∷◌, ◌-◌, length, get_or, set, take, drop, inl, inr, refl, sym, ap, subst, ◌∙◌, arith, if◌then◌else◌}
+use Rattle.std.proofs.Common.{◌≡◌, ℕ, ◌+◌, ◌/◌, ◌%◌, ◌<◌, ◌≤◌, true, false, List, [], ◌∷◌, ◌-◌, length, get_or, set, take, drop, inl, inr, refl, sym, ap, subst, ◌∙◌, arith, if◌then◌else◌}
 use Rattle.std.specs.List.{list_all}
 use Rattle.std.proofs.lemmas.Bool.{cases_Bool}
 use Rattle.std.proofs.lemmas.List.{get_or-drop, get_or-take, length-drop, length-take-le}
@@ -16,11 +16,11 @@ use Rattle.bidi.specs.WeakTable.{is_simple, pending, run_at, strong_after, stron
 use Rattle.bidi.proofs.WaitingLemmas.{types-settle, types-simple}
 
 -- after a strong type, the state holds this type
-pub strong-row : (strong class : BidiClass) → is_strong class ≡ true → strong_at (bidi_tag class * 32 / 32) ≡ strong_after strong class
-strong-row strong L e = refl
-strong-row strong R e = refl
-strong-row strong AL e = refl
-strong-row strong _ e = absurd (cc)
+pub strong-number : (strong class : BidiClass) → is_strong class ≡ true → strong_at (bidi_tag class) ≡ strong_after strong class
+strong-number strong L e = refl
+strong-number strong R e = refl
+strong-number strong AL e = refl
+strong-number strong _ e = absurd (cc)
 
 pub other-row : (strong class : BidiClass) → is_strong class ≡ false → strong ≡ strong_after strong class
 other-row strong L e = absurd (cc)

@@ -1,6 +1,6 @@
 -- The state of the pass for the neutral and implicit rules. All levels before the latest run of neutrals have
 -- been written.
-use Rattle.std.specs.Prelude.{◌≡◌, ℕ, ◌+◌, ◌-◌, ◌<◌, ◌≤◌, Bool, true, false, not, List, [], ◌∷◌, ◌++◌, length, get_or, take, drop, replicate, if◌then◌else◌}
+use Rattle.std.specs.Prelude.{◌≡◌, ℕ, ◌+◌, ◌==◌, ◌%◌, ◌/◌, ◌*◌, ◌-◌, ◌<◌, ◌≤◌, Bool, true, false, not, List, [], ◌∷◌, ◌++◌, length, get_or, take, drop, replicate, if◌then◌else◌}
 use Rattle.ucd.specs.declared.bidi_class.BidiClass.{BidiClass}
 use Rattle.bidi.specs.Neutral.{agree, between, implicit_level, is_neutral}
 use Rattle.bidi.specs.Sequences.{direction}
@@ -38,11 +38,11 @@ raised level opposite = if opposite then level + 1 else level
 abbrev pub beside : ℕ → BidiClass → ℕ
 beside level type = if is_opposite level type then 1 else 0
 
--- the entry of `TURNS` for a type
+-- 1 for a neutral type, or else twice the number of levels by which neutrals between two such types rise
 abbrev pub turn : ℕ → BidiClass → ℕ
 turn level type = if is_neutral type then 1 else (if is_opposite level type then 2 else 0)
 
--- the entry of `ABOVE` for a type
+-- the level of a type minus that of neutrals between two types of its direction, plus 1; for a neutral type, 1
 abbrev pub above : ℕ → BidiClass → ℕ
 above level type = if is_neutral type then 1 else (implicit_level level type + 1) - (level + beside level type)
 
@@ -66,3 +66,20 @@ pub record AreGuessed (level : ℕ) (sos eos : BidiClass) (types : List BidiClas
 abbrev pub LowersRun : ℕ → List BidiClass → List ℕ → ℕ → List ℕ → Type 0
 LowersRun level types levels at put =
     (start : ℕ) → IsRun types start at → take at put ≡ take start levels ++ replicate (at - start) level
+
+-- the index at which the row of `STEPS` for a level starts if neutrals rise by `rise` levels
+abbrev pub row_of : ℕ → ℕ → ℕ
+row_of level rise = level % 2 * 64 + rise * 32
+
+-- how many levels neutrals rise after a type, if they rise by `rise` levels before it
+abbrev pub rise_after : ℕ → ℕ → BidiClass → ℕ
+rise_after level rise type = (rise + turn level type) / 2
+
+-- the entry of `STEPS` for a level, how many levels neutrals rise, and a type
+abbrev pub step : ℕ → ℕ → BidiClass → ℕ
+step level rise type = row_of level (rise_after level rise type) * 256 + ((rise_after level rise type + above level type) - 1)
+
+-- Writing the levels of the types from `at` up to `end` results in the levels `put` and in the row `next`.
+abbrev pub Advances : ℕ → List BidiClass → List ℕ → ℕ → ℕ → List ℕ → ℕ → ℕ → Type 0
+Advances level types levels row at put next end =
+    (sos eos : BidiClass) → AreGuessed level sos eos types levels (row / 32 % 2 == 1) at → AreGuessed level sos eos types put (next / 32 % 2 == 1) end

@@ -1,11 +1,11 @@
 //! Applies the neutral and implicit rules (UAX #9, N1, N2, I1 and I2) to the types of one isolating run
 //! sequence.
-ghost use Rattle.std.specs.Prelude.{◌≡◌, ◌≤◌, length, map};
+ghost use Rattle.std.specs.Prelude.{◌≡◌, ◌+◌, ◌/◌, ◌%◌, ◌<◌, ◌≤◌, length, map};
 ghost use Rattle.bidi.specs.Neutral.{implicit_level, is_neutral, neutral};
-ghost use Rattle.bidi.specs.Rows.{beside, LowersRun};
+ghost use Rattle.bidi.specs.Rows.{Advances, beside, row_of, LowersRun};
 ghost use Rattle.bidi.specs.Sequences.{direction};
 
-use crate::neutral_table::{above, turn};
+use crate::neutral_table::{row_of, step};
 use ucd::BidiClass;
 
 /// Applies N1, N2, I1 and I2 in one pass. A run of neutrals gets the direction of the types on both sides if
@@ -24,22 +24,53 @@ pub(crate) fn resolve_neutral(
     requires bounded { level ≤ 125 }
     ensures { levels.new ≡ map (implicit_level level) (neutral (direction level) sos eos types.now) }
 {
-    // How many levels neutrals rise if the next non-neutral type has the same direction as the last one.
-    let mut rise = rise_beside(level, sos);
+    let mut row = row_of(level, rise_beside(level, sos));
     let mut at = 0;
-    while at < types.len() {
-        let class = types[at];
-        let next = (rise + turn(level, class)) / 2;
-        if next < rise {
-            lower_run(types, level, at, levels);
-        }
-        levels[at] = level + next + above(level, class) - 1;
-        rise = next;
-        at += 1;
+    // Two types at a time, to test the index half as often.
+    while at + 1 < types.len() {
+        row = advance(types, level, at, row, levels);
+        row = advance(types, level, at + 1, row, levels);
+        at += 2;
     }
-    if rise_beside(level, eos) < rise {
+    row = advance_last(types, level, at, row, levels);
+    if row_of(level, rise_beside(level, eos)) < row {
         lower_run(types, level, types.len(), levels);
     }
+}
+
+// Writes the level of the type at an index, given the row for this type. Returns the row for the next type.
+#[inline(always)] // since the loop calls it twice
+fn advance(types: &[BidiClass], level: u8, at: usize, row: usize, levels: &mut [u8]) -> usize
+    requires length { length levels.old ≡ length types.now }
+    requires bounded { level ≤ 125 }
+    requires within { at < length types.now }
+    requires row { row ≡ row_of level (row / 32 % 2) }
+    ensures row { result ≡ row_of level (result / 32 % 2) }
+    ensures next { Advances level types.now levels.old row at levels.new result (at + 1) }
+{
+    let entry = step(level, row, types[at]);
+    let next = (entry / 256) as usize;
+    if next < row {
+        lower_run(types, level, at, levels);
+    }
+    levels[at] = level + (entry % 256) as u8;
+    next
+}
+
+// Does the same as `advance` for the last type, if there is one at the index.
+#[inline(always)]
+fn advance_last(types: &[BidiClass], level: u8, at: usize, row: usize, levels: &mut [u8]) -> usize
+    requires length { length levels.old ≡ length types.now }
+    requires bounded { level ≤ 125 }
+    requires within { (at ≤ length types.now) × (length types.now ≤ at + 1) }
+    requires row { row ≡ row_of level (row / 32 % 2) }
+    ensures row { result ≡ row_of level (result / 32 % 2) }
+    ensures next { Advances level types.now levels.old row at levels.new result (length types.now) }
+{
+    if at < types.len() {
+        return advance(types, level, at, row, levels);
+    }
+    row
 }
 
 // Sets the levels of the run of neutrals that ends at `end` to the embedding level.

@@ -1,37 +1,40 @@
-//! The tables for the pass that applies the neutral and implicit rules (UAX #9, N1, N2, I1 and I2). Each
-//! table has a row for even levels and one for odd levels. A row has an entry for each bidi class. Each entry
-//! is proved correct.
-ghost use Rattle.std.specs.Prelude.{◌≡◌, ◌≤◌};
-ghost use Rattle.bidi.specs.Rows.{above, turn};
+//! The table for the pass that applies the neutral and implicit rules (UAX #9, N1, N2, I1 and I2). It has two
+//! rows for even levels and two for odd levels: one if neutrals do not rise after the last non-neutral type,
+//! and one if they rise by one level. A row has an entry for each bidi class. Each entry is proved correct.
+ghost use Rattle.std.specs.Prelude.{◌≡◌, ◌≤◌, ◌/◌, ◌%◌};
+ghost use Rattle.bidi.specs.Rows.{row_of, step};
 
 use crate::weak_table::ROW_LEN;
 use ucd::BidiClass;
 
-/// 1 for a neutral type, or else twice the number of levels by which neutrals between two such types rise.
-pub static TURNS: [u8; 2 * ROW_LEN] = [
-    0, 2, 2, 2, 2, 2, 2, 2, 2, 2, 1, 1, 1, 1, 2, 2, 2, 2, 2, 1, 1, 1, 1, 0, 0, 0, 0, 0, 0, 0, 0, 0,
-    2, 0, 0, 0, 0, 0, 0, 0, 0, 0, 1, 1, 1, 1, 0, 0, 0, 0, 0, 1, 1, 1, 1, 2, 2, 2, 2, 2, 2, 2, 2, 2,
+/// The index at which the row for the next type starts, times 256, plus how far the level of this type is
+/// above the level of the sequence. The level of a neutral is as if the types on both sides had the same
+/// direction.
+pub static STEPS: [u16; 4 * ROW_LEN] = [
+    0, 8193, 8192, 8194, 8192, 8192, 8194, 8192, 8192, 8192, 0, 0, 0, 0, 8192, 8192, 8192, 8192,
+    8192, 0, 0, 0, 0, 0, 0, 0, 0, 0, 0, 0, 0, 0, 0, 8193, 8192, 8194, 8192, 8192, 8194, 8192, 8192,
+    8192, 8193, 8193, 8193, 8193, 8192, 8192, 8192, 8192, 8192, 8193, 8193, 8193, 8193, 0, 0, 0, 0,
+    0, 0, 0, 0, 0, 24577, 16384, 16384, 16385, 16384, 16384, 16385, 16384, 16384, 16384, 16384,
+    16384, 16384, 16384, 16384, 16384, 16384, 16384, 16384, 16384, 16384, 16384, 16384, 24577,
+    24577, 24577, 24577, 24577, 24577, 24577, 24577, 24577, 24577, 16384, 16384, 16385, 16384,
+    16384, 16385, 16384, 16384, 16384, 24577, 24577, 24577, 24577, 16384, 16384, 16384, 16384,
+    16384, 24577, 24577, 24577, 24577, 24577, 24577, 24577, 24577, 24577, 24577, 24577, 24577,
+    24577,
 ];
 
-/// The level of a type minus that of neutrals between two types of its direction, plus 1. For a neutral type,
-/// 1.
-pub static ABOVE: [u8; 2 * ROW_LEN] = [
-    1, 1, 0, 2, 0, 0, 2, 0, 0, 0, 1, 1, 1, 1, 0, 0, 0, 0, 0, 1, 1, 1, 1, 1, 1, 1, 1, 1, 1, 1, 1, 1,
-    1, 1, 1, 2, 1, 1, 2, 1, 1, 1, 1, 1, 1, 1, 1, 1, 1, 1, 1, 1, 1, 1, 1, 1, 1, 1, 1, 1, 1, 1, 1, 1,
-];
-
-/// Returns the entry of `TURNS` for a level and a class.
-pub fn turn(level: u8, class: BidiClass) -> u8
-    ensures entry { result ≡ turn level class }
-    ensures bounded { result ≤ 2 }
+/// Returns the index at which the row for a level, and for how many levels neutrals rise, starts.
+pub fn row_of(level: u8, rise: u8) -> usize
+    requires { rise ≤ 1 }
+    ensures { result ≡ row_of level rise }
 {
-    TURNS[(level % 2) as usize * ROW_LEN + class as usize]
+    (level % 2) as usize * (2 * ROW_LEN) + rise as usize * ROW_LEN
 }
 
-/// Returns the entry of `ABOVE` for a level and a class.
-pub fn above(level: u8, class: BidiClass) -> u8
-    ensures entry { result ≡ above level class }
-    ensures bounded { result ≤ 2 }
+/// Returns the entry of `STEPS` for a row and a class. The row must be one for the level.
+pub fn step(level: u8, row: usize, class: BidiClass) -> u16
+    requires { row ≡ row_of level (row / 32 % 2) }
+    ensures entry { result ≡ step level (row / 32 % 2) class }
+    ensures bounded { result % 256 ≤ 2 }
 {
-    ABOVE[(level % 2) as usize * ROW_LEN + class as usize]
+    STEPS[row + class as usize]
 }

@@ -29,6 +29,10 @@ use ucd::{BidiClass, Properties, Tables};
 // The loops over classes below have no branches, so the compiler can test many characters at a time. For the
 // same reason, the next three functions use comparisons instead of a `match`.
 
+// The number of properties that the compiler tests at a time. After the whole groups, the last `GROUP`
+// properties are read, some of them again, so that no shorter group is left.
+const GROUP: usize = 16;
+
 // Returns whether a character of this class is kept by X9, and neither opens nor closes an embedding,
 // override or isolate.
 fn is_plain(class: BidiClass) -> bool
@@ -93,8 +97,23 @@ fn are_flat(classes: &[BidiClass], base: u8) -> bool
     flat
 }
 
-// Returns whether the classes in the properties are all flat, so that all levels equal the base level.
+// Returns whether the classes in the properties are all flat, so that all levels equal the base level. Reads
+// whole groups, and then the last `GROUP` properties.
 fn are_flat_by(properties: &[Properties], base: u8) -> bool
+    requires { base ≤ 1 }
+    ensures { result ≡ list_all (λ one. is_flat_at base (class_in one)) properties.now }
+{
+    let len = properties.len();
+    if len < GROUP {
+        return are_each_flat(properties, base);
+    }
+    are_each_flat(&properties[..len - len % GROUP], base)
+        && are_each_flat(&properties[len - GROUP..], base)
+}
+
+// Does the same as `are_flat_by`.
+#[inline(always)] // so that the loop knows that it reads whole groups
+fn are_each_flat(properties: &[Properties], base: u8) -> bool
     requires { base ≤ 1 }
     ensures { result ≡ list_all (λ one. is_flat_at base (class_in one)) properties.now }
 {
@@ -152,8 +171,41 @@ fn put_front(properties: &[Properties], classes: &mut [BidiClass]) -> Summary
     put_classes(properties, &mut classes[..properties.len()])
 }
 
-// Overwrites `classes` with the classes in `properties`, and returns a summary of the properties.
+// Overwrites `classes` with the classes in `properties`, and returns a summary of the properties. Reads whole
+// groups, and then the last `GROUP` properties.
 fn put_classes(properties: &[Properties], classes: &mut [BidiClass]) -> Summary
+    requires { length classes.old ≡ length properties.now }
+    ensures classes { classes.new ≡ map class_in properties.now }
+    ensures plain { result.is_plain ≡ list_all is_plain (map class_in properties.now) }
+    ensures brackets { result.has_brackets ≡ list_any has_bracket_in properties.now }
+{
+    let len = properties.len();
+    if len < GROUP {
+        return put_each(properties, classes);
+    }
+    let whole = len - len % GROUP;
+    let first = put_each(&properties[..whole], &mut classes[..whole]);
+    let last = put_last(&properties[len - GROUP..], &mut classes[len - GROUP..]);
+    Summary {
+        is_plain: first.is_plain & last.is_plain,
+        has_brackets: first.has_brackets | last.has_brackets,
+    }
+}
+
+// Does the same as `put_classes`, for the last group.
+#[inline(never)] // otherwise, the compiler unrolls the loop, and does not vectorize it
+fn put_last(properties: &[Properties], classes: &mut [BidiClass]) -> Summary
+    requires { length classes.old ≡ length properties.now }
+    ensures classes { classes.new ≡ map class_in properties.now }
+    ensures plain { result.is_plain ≡ list_all is_plain (map class_in properties.now) }
+    ensures brackets { result.has_brackets ≡ list_any has_bracket_in properties.now }
+{
+    put_each(properties, classes)
+}
+
+// Does the same as `put_classes`.
+#[inline(always)] // so that the loop knows that it reads whole groups
+fn put_each(properties: &[Properties], classes: &mut [BidiClass]) -> Summary
     requires { length classes.old ≡ length properties.now }
     ensures classes { classes.new ≡ map class_in properties.now }
     ensures plain { result.is_plain ≡ list_all is_plain (map class_in properties.now) }

@@ -1,5 +1,5 @@
 //! Applies the weak rules (UAX #9, W1 to W7) in one pass over the types of one isolating run sequence.
-ghost use Rattle.std.specs.Prelude.{◌≡◌, ◌≢◌, ℕ, ◌-◌, ◌/◌, ◌%◌, ◌<◌, ◌≤◌, ◌++◌, true, not, if◌then◌else◌};
+ghost use Rattle.std.specs.Prelude.{◌≡◌, ◌≢◌, ℕ, ◌-◌, ◌<◌, ◌≤◌, ◌++◌, true, not, if◌then◌else◌};
 ghost use Rattle.std.specs.Prelude.{length, take, drop, replicate, slice_index_or};
 ghost use Rattle.std.specs.List.{list_all};
 ghost use Rattle.ucd.specs.declared.bidi_class.BidiClass.{BidiClass};
@@ -8,10 +8,10 @@ ghost use Rattle.ucd.specs.Classes.{is_nonspacing_mark, is_strong};
 ghost use Rattle.bidi.specs.Weak.{is_left, mark_after, w3_type, weak};
 ghost use Rattle.bidi.specs.WeakState.{IsState, Reads};
 ghost use Rattle.bidi.specs.WeakTable.{is_side, is_simple, strong_after, strong_at};
-ghost use Rattle.bidi.specs.declared.weak_table.TheConstants.{COMPLETES, RUN_LEN};
+ghost use Rattle.bidi.specs.declared.weak_table.TheConstants.{COMPLETES};
 
 use crate::fill::fill;
-use crate::weak_table::{COMPLETES, KEEPS, LEFT, PARTS, RIGHT, ROW_LEN, RUN_LEN, next, value};
+use crate::weak_table::{COMPLETES, KEEPS, LEFT, PARTS, RIGHT, ROW_LEN, next, value};
 use ucd::BidiClass;
 
 // The state of the pass after the types read so far.
@@ -93,18 +93,19 @@ fn read_simple(types: &mut [BidiClass], begin: usize, end: usize, state: State) 
     ensures read { Reads types.old state begin types.new result end }
 {
     let mut before = state.before;
-    let mut row = state.row % RUN_LEN;
+    // The number of the row without a run.
+    let mut strong = state.row / ROW_LEN % 3;
     let mut at = begin;
     while at < end {
         let class = types[at];
         before = class;
-        row = strong_row(row, class);
+        strong = strong_after(strong, class);
         types[at] = w3_type(class);
         at += 1;
     }
     State {
         before,
-        row,
+        row: strong * ROW_LEN,
         start: state.start,
     }
 }
@@ -130,18 +131,16 @@ fn is_simple(class: BidiClass) -> bool
     ((class as u8) < BidiClass::EN as u8) | (class as u8 > BidiClass::NSM as u8)
 }
 
-// Returns the index at which the row for the next state starts, after a type that no rule but W3 can change.
-fn strong_row(row: usize, class: BidiClass) -> usize
-    requires bounded { row < RUN_LEN }
-    requires starts { row % 32 ≡ 0 }
-    ensures bounded { result < RUN_LEN }
-    ensures starts { result % 32 ≡ 0 }
-    ensures strong { strong_at (result / 32) ≡ strong_after (strong_at (row / 32)) class }
+// Returns the number of the row for the next state, after a type that no rule but W3 can change.
+fn strong_after(strong: usize, class: BidiClass) -> usize
+    requires { strong < 3 }
+    ensures bounded { result < 3 }
+    ensures strong { strong_at result ≡ strong_after (strong_at strong) class }
 {
     if is_strong(class) {
-        class as usize * ROW_LEN
+        class as usize
     } else {
-        row
+        strong
     }
 }
 

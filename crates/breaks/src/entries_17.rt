@@ -309,9 +309,9 @@ pub static OUTCOMES: [u8; ENTRY_COUNT] = outcomes! {
     N N N N N N N N N N N N N N M M N M M N N N M N M M M M M M M P M M M M M M I N N N N M M M M S S;
 };
 
-/// For each question from `LB15B` on, and for each symbol of the next character: a mark, another question about
-/// the base after that character, or `LB19A` if the answer depends on the width of the base before which the
-/// question is asked. CM and ZWJ are skipped.
+/// For each question from `LB15B` on, and for each symbol of the next character: a mark, another question
+/// about the base after that character, or `LB19A` if the answer depends on the width of the base before
+/// which the question is asked. CM and ZWJ are skipped.
 pub static ANSWERS: [u8; ANSWER_COUNT] = outcomes! {
     // LB15B
     N N N N N N N N N N N N N N M M N M M M M M M M M M M M M M M M M M M M M M N N M M M M M M M N N;

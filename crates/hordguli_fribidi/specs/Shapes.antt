@@ -1,10 +1,10 @@
 -- The code points of a paragraph after FriBidi's shaping.
 use Rattle.std.specs.Prelude.{ℕ, zero, suc, ◌+◌, ◌-◌, ◌*◌, ◌%◌, ◌==◌, Bool, not, ◌&&◌, List, bit_and, bit_or, length, map, nat_le, nat_lt, option_map, position, slice_index, slice_index_or, unwrap_or, if◌then◌else◌}
 use Rattle.std.specs.List.{range_with_len}
-use Rattle.joining.specs.Forms.{form_by}
+use Rattle.ucd.specs.Forms.{form_by}
 use Rattle.joining.specs.Ligatures.{lam_alef}
-use Rattle.joining.specs.declared.form.Form.{Form}
-use Rattle.joining.specs.declared.form.Form.TheVariants.{Final, Initial, Isolated, Medial}
+use Rattle.ucd.specs.declared.form.Form.{Form}
+use Rattle.ucd.specs.declared.form.Form.TheVariants.{Final, Initial, Isolated, Medial}
 use Rattle.hordguli_fribidi.specs.Joining.{has_forms}
 use Rattle.hordguli_fribidi.specs.Points.{number_at}
 

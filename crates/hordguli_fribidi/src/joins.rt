@@ -5,10 +5,12 @@ ghost use Rattle.joining.specs.Joiners.{joiner_at};
 ghost use Rattle.joining.specs.declared.joiner.Joiner.{Joiner};
 ghost use Rattle.ucd.specs.Classes.{is_removed};
 ghost use Rattle.ucd_bidi.specs.JoiningType.{joining_type};
-ghost use Rattle.hordguli_fribidi.specs.Joining.{has_forms, is_scalar, is_skipped, joined, joined_if, joined_of};
+ghost use Rattle.hordguli_fribidi.specs.Joining.{has_forms, is_scalar, is_skipped, joined, joined_if};
+ghost use Rattle.hordguli_fribidi.specs.Joining.{joined_of};
 ghost use Rattle.hordguli_fribidi.specs.Joining.{joiners, joining_at, joining_types_if};
 ghost use Rattle.hordguli_fribidi.specs.Joining.{kept_if, level_of, property_of};
-ghost use Rattle.hordguli_fribidi.specs.Joining.{side_after, side_before, sides_from, sides_past, type_of, without};
+ghost use Rattle.hordguli_fribidi.specs.Joining.{side_after, side_before, sides_from, sides_past, type_of};
+ghost use Rattle.hordguli_fribidi.specs.Joining.{without};
 ghost use Rattle.hordguli_fribidi.specs.Types.{class_of};
 
 use crate::characters::hordguli_fribidi_core_type;
@@ -224,8 +226,8 @@ fn joined(c: Joiner, before: u8, after: u8, property: u8) -> u8
     kept_if(before != 0, side_before(c), kept)
 }
 
-// Returns the property of the first character after joining, and the sides of the join over the boundary after
-// it, given those over the boundary before it.
+// Returns the property of the first character after joining, and the sides of the join over the boundary
+// after it, given those over the boundary before it.
 #[tactic(auto, using(crate::proofs::JoinerLemmas::joiners_length))]
 fn join_first(text: &Paragraph, before: u8) -> (u8, u8)
     requires { 0 < length (joiners text.now.types.now text.now.levels.now text.now.properties.now) }

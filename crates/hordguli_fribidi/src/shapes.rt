@@ -1,5 +1,6 @@
 //! Replaces code points in the C caller's arrays: by presentation forms, ligatures and mirrors.
-ghost use Rattle.std.specs.Prelude.{◌≡◌, ◌<◌, ◌+◌, ◌%◌, ◌==◌, length, position, slice_index, IfSome, if◌then◌else◌};
+ghost use Rattle.std.specs.Prelude.{◌≡◌, ◌<◌, ◌+◌, ◌%◌, ◌==◌, length, position, slice_index, IfSome};
+ghost use Rattle.std.specs.Prelude.{if◌then◌else◌};
 ghost use Rattle.hordguli_fribidi.specs.Points.{number_at};
 ghost use Rattle.hordguli_fribidi.specs.Shapes.{place_of_form};
 ghost use Rattle.hordguli_fribidi.specs.Shapes.{are_even, form_of, formed_if, ligated, ligated_of};

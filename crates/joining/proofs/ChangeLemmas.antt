@@ -9,8 +9,8 @@ use Rattle.joining.specs.Joins.{joins, next_joined, previous_joined}
 use Rattle.joining.specs.Ligatures.{of_alef}
 use Rattle.joining.specs.Presentation.{form_of, in_form, is_letter, no_forms, presentation_form}
 use Rattle.joining.specs.Shaping.{form_at, is_hidden, is_right_joining, ligature_at, ligature_before, ligature_from, ligature_of, ligature_to, ligature_with, shown, shown_at}
-use Rattle.joining.specs.declared.form.Form.{Form}
-use Rattle.joining.specs.declared.form.Form.TheVariants.{Final, Initial, Isolated, Medial}
+use Rattle.ucd.specs.declared.form.Form.{Form}
+use Rattle.ucd.specs.declared.form.Form.TheVariants.{Final, Initial, Isolated, Medial}
 use Rattle.joining.specs.declared.joiner.Agreement.TheVariants.{All}
 use Rattle.joining.specs.declared.joiner.Joiner.{Joiner}
 use Rattle.joining.specs.declared.presentation.PresentationForms.{PresentationForms}

@@ -2,7 +2,7 @@ pub mod Joiners
 pub mod Joins
 pub mod Ligatures
 pub mod Pairs
-pub mod Forms
 pub mod Presentation
 pub mod Shaping
 pub mod Changes
+pub mod Tabled

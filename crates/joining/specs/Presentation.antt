@@ -3,10 +3,10 @@
 use Rattle.std.specs.Prelude.{ℕ, ◌==◌, Bool, true, false, List, [], ◌∷◌, Option, None, if◌then◌else◌}
 use Rattle.ucd_bidi.specs.declared.JoiningType.{JoiningType}
 use Rattle.ucd_bidi.specs.declared.JoiningType.TheVariants.{DualJoining, RightJoining}
-use Rattle.joining.specs.Forms.{form_by}
+use Rattle.ucd.specs.Forms.{form_by}
 use Rattle.joining.specs.Joiners.{is_rtl}
-use Rattle.joining.specs.declared.form.Form.{Form}
-use Rattle.joining.specs.declared.form.Form.TheVariants.{Final, Initial, Isolated, Medial}
+use Rattle.ucd.specs.declared.form.Form.{Form}
+use Rattle.ucd.specs.declared.form.Form.TheVariants.{Final, Initial, Isolated, Medial}
 use Rattle.joining.specs.declared.joiner.Joiner.{Joiner}
 use Rattle.joining.specs.declared.presentation.Letter.{Letter}
 use Rattle.joining.specs.declared.presentation.PresentationForms.{PresentationForms}

@@ -13,8 +13,8 @@ pub struct Joiner {
     pub level: Option<u8>,
 }
 
-/// Which levels the characters from one to another must have, so that the two join. Characters that X9 removes
-/// have none.
+/// Which levels the characters from one to another must have, so that the two join. Characters that X9
+/// removes have none.
 #[derive(Clone, Copy)]
 pub enum Agreement {
     /// All have the same level.

@@ -31,8 +31,8 @@ pub(crate) fn level_after(by: Agreement, level: Option<u8>, next: Option<u8>) ->
     }
 }
 
-/// Returns the index of the character after `at` that joins the character at `at`, or `None` if there is none.
-/// Needs time proportional to the number of transparent characters between them.
+/// Returns the index of the character after `at` that joins the character at `at`, or `None` if there is
+/// none. Needs time proportional to the number of transparent characters between them.
 pub fn next_joined<J: Joiners>(text: &J, by: Agreement, at: usize) -> Option<usize>
     requires { at < length (J.all text.now) }
     ensures joined { result ≡ next_joined by (J.all text.now) at }

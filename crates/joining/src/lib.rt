@@ -16,20 +16,20 @@
 //! assert!(rt; next_joined(&text, Agreement::All, 0) == Some(1));
 //! ```
 //!
-//! The property Joining_Type comes from the kit's crate `ucd_bidi`.
+//! The property Joining_Type comes from the kit's crate `ucd_bidi`, or with presentation forms from Unicode's
+//! files, as `ucd::JoiningTables`.
 #![tactic(auto)]
 
 mod changes;
-mod form;
 mod joiner;
 mod joins;
 mod ligature;
 mod pairs;
 mod presentation;
 mod shaping;
+mod tables;
 
 pub use changes::{hidden_lams_have_ligatures, only_letters_with_forms_change};
-pub use form::Form;
 pub use joiner::{Agreement, Joiner, Joiners, ListedJoiners};
 pub use joins::next_joined;
 pub use ligature::lam_alef;
@@ -39,4 +39,6 @@ pub use pairs::{
 };
 pub use presentation::{Letter, LetterForms, ListedForms, PresentationForms};
 pub use shaping::join_letters;
+pub use tables::joining_type;
+pub use ucd::Form;
 pub use ucd_bidi::JoiningType;

@@ -2,8 +2,8 @@
 ghost use Rattle.std.specs.Prelude.{◌≡◌, ◌+◌, ◌≤◌};
 ghost use Rattle.joining.specs.Ligatures.{lam_alef, of_alef};
 
-// Returns the ligature of an alef's final form with a form of lam: the initial one if `place` is 0, the medial one
-// if it is 1.
+// Returns the ligature of an alef's final form with a form of lam: the initial one if `place` is 0, the
+// medial one if it is 1.
 fn of_alef(place: u32, alef: u32) -> Option<u32>
     requires { place ≤ 1 }
     ensures { result ≡ of_alef place alef }
@@ -17,8 +17,8 @@ fn of_alef(place: u32, alef: u32) -> Option<u32>
     }
 }
 
-/// Returns the code point of the ligature of a lam and an alef that it joins, given those of their presentation
-/// forms, or `None` if the two form no ligature.
+/// Returns the code point of the ligature of a lam and an alef that it joins, given those of their
+/// presentation forms, or `None` if the two form no ligature.
 pub fn lam_alef(lam: u32, alef: u32) -> Option<u32>
     ensures { result ≡ lam_alef lam alef }
 {

@@ -2,8 +2,8 @@
 ghost use Rattle.joining.specs.Pairs.{JoinsAreMutual, OnlyJoiningTypesJoin};
 ghost use Rattle.joining.specs.Pairs.{SlicesJoinAlike, TransparentCharactersChangeNothing};
 
-/// States, as a theorem, that a character joins at most one after it, and at most one before it. Costs nothing
-/// at run time.
+/// States, as a theorem, that a character joins at most one after it, and at most one before it. Costs
+/// nothing at run time.
 pub fn joins_are_mutual()
     ensures { JoinsAreMutual }
 {}
@@ -19,8 +19,8 @@ pub fn transparent_characters_change_nothing()
     ensures { TransparentCharactersChangeNothing }
 {}
 
-/// States, as a theorem, that two characters of a slice, as of a line of a paragraph, join if and only if they
-/// join in the whole text. Costs nothing at run time.
+/// States, as a theorem, that two characters of a slice, as of a line of a paragraph, join if and only if
+/// they join in the whole text. Costs nothing at run time.
 pub fn slices_join_alike()
     ensures { SlicesJoinAlike }
 {}

@@ -3,8 +3,8 @@ ghost use Rattle.std.specs.Prelude.{◌≡◌, ◌<◌, ◌==◌, ℕ, position,
 ghost use Rattle.joining.specs.Presentation.{form_of, forms_in, in_form, is_letter, presentation_form};
 ghost use Rattle.joining.specs.declared.presentation.PresentationForms.{PresentationForms};
 
-use crate::form::Form;
 use crate::joiner::Joiner;
+use ucd::Form;
 use ucd_bidi::JoiningType;
 
 /// The presentation forms of a letter. A form that the letter lacks is `None`.
@@ -94,8 +94,8 @@ fn form_of(c: Joiner, before: bool, after: bool) -> Form
     }
 }
 
-// Returns the presentation form of a character, given whether it joins one before it and one after it. Returns
-// `None` if it has none.
+// Returns the presentation form of a character, given whether it joins one before it and one after it.
+// Returns `None` if it has none.
 pub(crate) fn presentation_form<F: LetterForms>(
     forms: &F,
     c: char,

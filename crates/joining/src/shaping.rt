@@ -13,8 +13,8 @@ use crate::ligature::lam_alef;
 use crate::presentation::{LetterForms, presentation_form};
 use ucd_bidi::JoiningType;
 
-// The index of the first character after another that is not transparent, and whether the two join. If there is
-// no such character, the index is the number of characters.
+// The index of the first character after another that is not transparent, and whether the two join. If there
+// is no such character, the index is the number of characters.
 #[derive(Clone, Copy)]
 struct Next {
     at: usize,
@@ -93,8 +93,8 @@ fn ligature_with<F: LetterForms>(
     }
 }
 
-// Returns the ligature of the character at `at`, given its presentation form, with the next character, if they
-// join.
+// Returns the ligature of the character at `at`, given its presentation form, with the next character, if
+// they join.
 fn ligature_to<J: Joiners, F: LetterForms>(
     text: &J,
     forms: &F,
@@ -146,8 +146,8 @@ fn clear(hidden: &mut [bool])
 }
 
 /// Replaces the characters of a line by those that it shows. Letters become their presentation forms. At odd
-/// levels, a lam and an alef that it joins become a ligature, in place of the alef, and U+FEFF, in place of the
-/// lam. Stores in `hidden` which characters are such lams, which show nothing.
+/// levels, a lam and an alef that it joins become a ligature, in place of the alef, and U+FEFF, in place of
+/// the lam. Stores in `hidden` which characters are such lams, which show nothing.
 ///
 /// Needs time proportional to the length of the line, and allocates nothing.
 pub fn join_letters<J: Joiners, F: LetterForms>(

@@ -1,4 +1,4 @@
--- What a run edit leaves as it was: the characters before the run, but for the cluster end of the last one, and those
+-- What an edit leaves as it was: the characters before the edited ones, but for the cluster end of the last one, and those
 -- from a later split point on.
 use Rattle.std.proofs.Common.{◌≡◌, ◌∙◌, ℕ, zero, suc, ◌+◌, ◌-◌, ◌<◌, ◌≤◌, Bool, false, true, List, [], ◌∷◌, ◌++◌, length, map, take, drop, get_or, replicate, None, if◌then◌else◌, inl, inr, refl, sym, ap, ap₂, arith}
 use Rattle.std.proofs.Math.Seq.{drop-append_seam}
@@ -17,11 +17,13 @@ use Rattle.lines.specs.CharInfos.{info, infos, infos_of}
 use Rattle.lines.specs.Clusters.{can_split, cluster_ends, ends_after, is_split_point}
 use Rattle.lines.specs.Filling.{place_at}
 use Rattle.lines.specs.Reordering.{ends_by}
-use Rattle.lines.specs.SameKind.{levels_with, marks_with, IsRunEdit}
+use Rattle.lines.specs.SameKind.{levels_with, marks_with, replacement, IsEdited}
 use Rattle.lines.specs.Splicing.{AgreeAfter, AgreeBefore, Analysed}
 use Rattle.lines.specs.Tabs.{tab_width_in}
+use Rattle.lines.specs.Windows.{StaysOutside}
 use Rattle.lines.specs.declared.char_info.CharInfo.{CharInfo}
 use Rattle.lines.specs.declared.options.Options.{Options}
+use Rattle.lines.specs.declared.same_kind.Replacement.{Replacement}
 use Rattle.lines.specs.declared.same_kind.RunEdit.{RunEdit}
 use Rattle.lines.proofs.BareLemmas.{length-bare_infos, with_alike, with_infos}
 use Rattle.lines.proofs.ClusterLemmas.{length-cluster_ends}
@@ -162,9 +164,36 @@ module _ {X : Type 0} where
 
 -- ---- a run edit
 
-module _ (t : Tables) (options : Options) (by_characters : options.reorder_clusters ≡ false) (old new : List ℕ) (run : RunEdit) (is : IsRunEdit t old new run)
-    (levels : List ℕ) (levels_len : length levels ≡ length old)
-    (old_len : length (marks_of t options.whole_numbers old) ≡ length old) (marks_are : marks_of t options.whole_numbers new ≡ marks_with run (marks_of t options.whole_numbers old)) where
+-- it changes no level and no break mark outside the run
+pub levels_stay_with : (run : RunEdit) (levels : List ℕ) → run.at + run.old_len ≤ length levels
+    → StaysOutside (replacement run) levels (levels_with run levels)
+levels_stay_with run levels within =
+    let copies : List ℕ = replicate run.new_len (get_or levels run.at 0) in
+    let len : length copies ≡ run.new_len = length-replicate run.new_len (get_or levels run.at 0) in
+    let end : run.at + length copies + 0 ≡ run.at + run.new_len = omega (arith, len) in
+    let old_end : run.at + run.old_len + 0 ≡ run.at + run.old_len = omega arith in
+    record {
+      before = front_stays levels copies run.at run.at (run.at + run.old_len) (omega arith) (omega (arith, within));
+      after = ap (λ i. drop i (levels_with run levels)) (sym end) ∙ back_moves levels copies run.at (run.at + run.old_len) 0 (omega (arith, within)) ∙ ap (λ i. drop i levels) old_end;
+    }
+
+pub marks_stay_with : (run : RunEdit) (marks : List Mark) → (0 < run.old_len) × (0 < run.new_len) → run.at + run.old_len ≤ length marks
+    → StaysOutside (replacement run) marks (marks_with run marks)
+marks_stay_with run marks some within =
+    let copies : List Mark = replicate (run.new_len - 1) run.mark in
+    let len : length copies ≡ run.new_len - 1 = length-replicate (run.new_len - 1) run.mark in
+    let end : run.at + length copies + 1 ≡ run.at + run.new_len = omega (arith, len, some.1) in
+    let old_end : run.at + (run.old_len - 1) + 1 ≡ run.at + run.old_len = omega (arith, some.0) in
+    record {
+      before = front_stays marks copies run.at run.at (run.at + (run.old_len - 1)) (omega arith) (omega (arith, within));
+      after = ap (λ i. drop i (marks_with run marks)) (sym end) ∙ back_moves marks copies run.at (run.at + (run.old_len - 1)) 1 (omega (arith, within)) ∙ ap (λ i. drop i marks) old_end;
+    }
+
+-- ---- an edit that changes no level and no break mark outside the edited characters
+
+module _ (t : Tables) (options : Options) (by_characters : options.reorder_clusters ≡ false) (old new : List ℕ) (edit : Replacement) (is : IsEdited old new edit)
+    (levels new_levels : List ℕ) (levels_stay : StaysOutside edit levels new_levels)
+    (marks_stay : StaysOutside edit (marks_of t options.whole_numbers old) (marks_of t options.whole_numbers new)) where
   abbrev marks : List Mark
   marks = marks_of t options.whole_numbers old
 
@@ -172,20 +201,23 @@ module _ (t : Tables) (options : Options) (by_characters : options.reorder_clust
   before = record { text = old; levels = levels; infos = infos_of t options None old }
 
   abbrev after : Analysed
-  after = record { text = new; levels = levels_with run levels; infos = infos_of t options None new }
+  after = record { text = new; levels = new_levels; infos = infos_of t options None new }
+
+  -- the first n items, which are before the edited characters
+  same_front : {X : Type 0} (xs ys : List X) (n : ℕ) → n ≤ edit.at → take edit.at ys ≡ take edit.at xs → take n xs ≡ take n ys
+  same_front xs ys n below same = sym (take-take n edit.at xs below) ∙ ap (take n) (sym same) ∙ take-take n edit.at ys below
 
   no_ends_by : (text : List ℕ) → ends_by options text ≡ []
   no_ends_by text = ap (λ b. if b then cluster_ends text else []) by_characters
 
-  -- the infos of the characters before the one before the run
-  infos_stay : (n : ℕ) → n + 1 ≡ run.at → take n (infos_of t options None old) ≡ take n (infos_of t options None new)
+  -- the infos of the characters before the one before the edited characters
+  infos_stay : (n : ℕ) → n + 1 ≡ edit.at → take n (infos_of t options None old) ≡ take n (infos_of t options None new)
   unfolding infos_of
   infos_stay n one =
       let w : ℕ = tab_width_in t options in
-      let text : take n old ≡ take n new =
-      sym (take-take n run.at old (omega (arith, one))) ∙ ap (take n) (sym is.before) ∙ take-take n run.at new (omega (arith, one)) in
+      let text : take n old ≡ take n new = same_front old new n (omega (arith, one)) is.before in
       let breaks : take n marks ≡ take n (marks_of t options.whole_numbers new) =
-      sym (front_stays marks (replicate (run.new_len - 1) run.mark) n run.at (run.at + (run.old_len - 1)) (omega (arith, one)) (omega (arith, old_len, is.within.0))) ∙ ap (take n) (sym marks_are) in
+      same_front marks (marks_of t options.whole_numbers new) n (omega (arith, one)) marks_stay.before in
       let same : take (n + 1) new ≡ take (n + 1) old = ap (λ i. take i new) one ∙ is.before ∙ ap (λ i. take i old) (sym one) in
       let clusters : take n (cluster_ends old) ≡ take n (cluster_ends new) =
       same_ends_before old new n (omega (arith, one, is.within.0)) (omega (arith, one, is.within.1)) same in
@@ -194,60 +226,50 @@ module _ (t : Tables) (options : Options) (by_characters : options.reorder_clust
       ∙ ap₂ (λ (ms : List Mark) (es : List Bool). infos t w (take n new) ms es) breaks clusters
       ∙ sym (take_infos t w n new (marks_of t options.whole_numbers new) (cluster_ends new))
 
-  pub agree_before : AgreeBefore options before after (run.at - 1)
+  pub agree_before : AgreeBefore options before after (edit.at - 1)
   agree_before =
-      let less : run.at - 1 ≤ run.at = omega arith in
+      let less : edit.at - 1 ≤ edit.at = omega arith in
       record {
-        text = sym (take-take (run.at - 1) run.at old less) ∙ ap (take (run.at - 1)) (sym is.before) ∙ take-take (run.at - 1) run.at new less;
-        levels = sym (front_stays levels (replicate run.new_len (get_or levels run.at 0)) (run.at - 1) run.at (run.at + run.old_len) less (omega (arith, levels_len, is.within.0)));
-        infos = elim (cases_lt 0 run.at) [
-          | inl some ↦ infos_stay (run.at - 1) (omega (arith, some))
-          | inr none ↦ let zeroth : run.at - 1 ≡ 0 = omega (arith, none) in ap (λ n. take n (infos_of t options None old)) zeroth ∙ sym (ap (λ n. take n (infos_of t options None new)) zeroth)
+        text = same_front old new (edit.at - 1) less is.before;
+        levels = same_front levels new_levels (edit.at - 1) less levels_stay.before;
+        infos = elim (cases_lt 0 edit.at) [
+          | inl some ↦ infos_stay (edit.at - 1) (omega (arith, some))
+          | inr none ↦ let zeroth : edit.at - 1 ≡ 0 = omega (arith, none) in ap (λ n. take n (infos_of t options None old)) zeroth ∙ sym (ap (λ n. take n (infos_of t options None new)) zeroth)
         ];
-        ends = ap (take (run.at - 1)) (no_ends_by old ∙ sym (no_ends_by new));
+        ends = ap (take (edit.at - 1)) (no_ends_by old ∙ sym (no_ends_by new));
       }
 
   -- the characters from index v on, which had index u
-  module _ (u v : ℕ) (later : run.at + run.new_len < v) (place : u + run.new_len ≡ v + run.old_len) (within : v ≤ length new) (split : is_split_point new v ≡ true) where
+  module _ (u v : ℕ) (later : edit.at + edit.inserted < v) (place : u + edit.inserted ≡ v + edit.removed) (within : v ≤ length new) (split : is_split_point new v ≡ true) where
     abbrev k : ℕ
-    k = v - (run.at + run.new_len)
+    k = v - (edit.at + edit.inserted)
 
-    u_is : run.at + run.old_len + k ≡ u
+    u_is : edit.at + edit.removed + k ≡ u
     u_is = omega (arith, later, place)
 
-    v_is : run.at + run.new_len + k ≡ v
+    v_is : edit.at + edit.inserted + k ≡ v
     v_is = omega (arith, later)
 
-    text_moves : drop u old ≡ drop v new
-    text_moves =
-        ap (λ i. drop i old) (sym u_is) ∙ sym (drop-drop k (run.at + run.old_len) old) ∙ ap (drop k) (sym is.after) ∙ drop-drop k (run.at + run.new_len) new ∙ ap (λ i. drop i new) v_is
+    -- the items after the edited characters
+    same_back : {X : Type 0} (xs ys : List X) → drop (edit.at + edit.inserted) ys ≡ drop (edit.at + edit.removed) xs → drop u xs ≡ drop v ys
+    same_back xs ys same =
+        ap (λ i. drop i xs) (sym u_is) ∙ sym (drop-drop k (edit.at + edit.removed) xs) ∙ ap (drop k) (sym same) ∙ drop-drop k (edit.at + edit.inserted) ys ∙ ap (λ i. drop i ys) v_is
 
-    levels_move : drop u levels ≡ drop v (levels_with run levels)
-    levels_move =
-        let copies : List ℕ = replicate run.new_len (get_or levels run.at 0) in
-        let len : run.at + length copies + k ≡ v = omega (arith, v_is, length-replicate run.new_len (get_or levels run.at 0)) in
-        ap (λ i. drop i levels) (sym u_is)
-        ∙ sym (back_moves levels copies run.at (run.at + run.old_len) k (omega (arith, levels_len, is.within.0)))
-        ∙ ap (λ i. drop i (levels_with run levels)) len
+    text_moves : drop u old ≡ drop v new
+    text_moves = same_back old new is.after
 
     marks_move : drop u marks ≡ drop v (marks_of t options.whole_numbers new)
-    marks_move =
-        let copies : List Mark = replicate (run.new_len - 1) run.mark in
-        let len : run.at + length copies + (k + 1) ≡ v = omega (arith, v_is, is.some.1, length-replicate (run.new_len - 1) run.mark) in
-        let place : run.at + (run.old_len - 1) + (k + 1) ≡ u = omega (arith, u_is, is.some.0) in
-        ap (λ i. drop i marks) (sym place)
-        ∙ sym (back_moves marks copies run.at (run.at + (run.old_len - 1)) (k + 1) (omega (arith, old_len, is.within.0)))
-        ∙ ap (λ i. drop i (marks_with run marks)) len ∙ ap (drop v) (sym marks_are)
+    marks_move = same_back marks (marks_of t options.whole_numbers new) marks_stay.after
 
     -- the characters around the split point are the same ones
-    same_at : (i : ℕ) → run.at + run.new_len + i ≤ length new → get_or old (run.at + run.old_len + i) 0 ≡ get_or new (run.at + run.new_len + i) 0
+    same_at : (i : ℕ) → edit.at + edit.inserted + i ≤ length new → get_or old (edit.at + edit.removed + i) 0 ≡ get_or new (edit.at + edit.inserted + i) 0
     same_at i fits =
-        sym (get_or-drop (run.at + run.old_len) old i 0) ∙ ap (λ (xs : List ℕ). get_or xs i 0) (sym is.after) ∙ get_or-drop (run.at + run.new_len) new i 0
+        sym (get_or-drop (edit.at + edit.removed) old i 0) ∙ ap (λ (xs : List ℕ). get_or xs i 0) (sym is.after) ∙ get_or-drop (edit.at + edit.inserted) new i 0
 
     old_split : is_split_point old u ≡ true
     old_split =
-        let last_u : run.at + run.old_len + (k - 1) ≡ u - 1 = omega (arith, later, place) in
-        let last_v : run.at + run.new_len + (k - 1) ≡ v - 1 = omega (arith, later) in
+        let last_u : edit.at + edit.removed + (k - 1) ≡ u - 1 = omega (arith, later, place) in
+        let last_v : edit.at + edit.inserted + (k - 1) ≡ v - 1 = omega (arith, later) in
         let last : get_or old (u - 1) 0 ≡ get_or new (v - 1) 0 =
         ap (λ i. get_or old i 0) (sym last_u) ∙ same_at (k - 1) (omega (arith, within, last_v)) ∙ ap (λ i. get_or new i 0) last_v in
         let next : get_or old u 0 ≡ get_or new v 0 = ap (λ i. get_or old i 0) (sym u_is) ∙ same_at k (omega (arith, within, v_is)) ∙ ap (λ i. get_or new i 0) v_is in
@@ -262,8 +284,8 @@ module _ (t : Tables) (options : Options) (by_characters : options.reorder_clust
           within,
           is.within.0,
           is.within.1,
-          length-drop (run.at + run.old_len) old,
-          length-drop (run.at + run.new_len) new,
+          length-drop (edit.at + edit.removed) old,
+          length-drop (edit.at + edit.inserted) new,
           ap (λ (xs : List ℕ). length xs) is.after,
         )
 
@@ -282,7 +304,7 @@ module _ (t : Tables) (options : Options) (by_characters : options.reorder_clust
     agree_after = record {
       within = (old_within, within);
       text = text_moves;
-      levels = levels_move;
+      levels = same_back levels new_levels levels_stay.after;
       infos = infos_move;
       ends = ap (drop u) (no_ends_by old) ∙ drop_all u [] (omega arith) ∙ sym (ap (drop v) (no_ends_by new) ∙ drop_all v [] (omega arith));
     }

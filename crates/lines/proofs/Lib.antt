@@ -5,6 +5,7 @@ mod BareLemmas
 mod BeginningLemmas
 mod BesideLemmas
 mod CellLemmas
+mod ChangedLemmas
 pub mod ClusterLemmas
 pub mod ColumnCacheLemmas
 pub mod ColumnSumLemmas

@@ -1,4 +1,4 @@
--- If the window of a run edit meets the old lines, the lines of the new paragraph are the old ones before the window, those
+-- If the window of an edit meets the old lines, the lines of the new paragraph are the old ones before the window, those
 -- of the window, and the old ones after it.
 use Rattle.std.proofs.Common.{◌≡◌, ◌∙◌, ℕ, zero, suc, ◌+◌, ◌-◌, ◌<◌, ◌≤◌, Bool, false, true, List, [], ◌∷◌, ◌++◌, length, map, take, drop, get_or, None, Option, Some, if◌then◌else◌, inl, inr, refl, sym, ap, ap₂, subst, arith}
 use Rattle.std.specs.Prelude.{option_map, slice_get, slice_index, slice_range}
@@ -24,13 +24,12 @@ use Rattle.lines.specs.Splicing.{lines_at, lines_to, moved, moved_start, AgreeAf
 use Rattle.lines.specs.Visual.{Line, lines_from}
 use Rattle.lines.specs.Clusters.{cluster_ends}
 use Rattle.lines.specs.Paragraphs.{rules_in}
-use Rattle.lines.specs.SameKind.{levels_with, marks_with}
 use Rattle.lines.specs.Spliced.{spliced_lines}
 use Rattle.lines.specs.Tabs.{tab_width_in}
-use Rattle.lines.specs.Windows.{old_starts, window_infos, window_lines, IsFilled, IsFirstLine, IsRefillable, IsShared, IsWindow, MeetsEnd, MeetsLine}
+use Rattle.lines.specs.Windows.{old_starts, window_infos, window_lines, IsFilled, IsFirstLine, IsRefillable, IsShared, IsWindow, MeetsEnd, MeetsLine, StaysOutside}
 use Rattle.lines.specs.declared.char_info.CharInfo.{CharInfo}
 use Rattle.lines.specs.declared.options.Options.{Options}
-use Rattle.lines.specs.declared.same_kind.RunEdit.{RunEdit}
+use Rattle.lines.specs.declared.same_kind.Replacement.{Replacement}
 use Rattle.lines.specs.declared.splicing.Gap.{Gap}
 use Rattle.lines.specs.declared.windows.Edited.{Edited}
 use Rattle.lines.specs.declared.windows.Meeting.{Meeting}
@@ -209,7 +208,7 @@ module _ (tables : Tables) (options : Options) (margin : Option ℕ) (base : ℕ
   to_after of u low end (s ∷ t ∷ starts) from rise =
       All-cons (λ (line : Line). u ≤ line.start) _ (to of end (t ∷ starts)) (omega (arith, from, rise.0)) (to_after of u (suc s) end (t ∷ starts) (omega (arith, from, rise.0)) rise.1)
 
--- ---- a window of a run edit
+-- ---- a window of an edit
 
 module _ (e : Edited) (is : IsRefillable e) where
   abbrev tables : Tables
@@ -225,13 +224,13 @@ module _ (e : Edited) (is : IsRefillable e) where
   margin = margin_of options e.width
 
   abbrev laid : Layout
-  laid = e.change.laid.now
+  laid = e.laid.now
 
-  abbrev run : RunEdit
-  run = e.change.run
+  abbrev edit : Replacement
+  edit = e.edit
 
   abbrev n : ℕ
-  n = run.at - 1
+  n = edit.at - 1
 
   abbrev ps : List CharInfo
   ps = infos_of tables options None laid.text
@@ -246,7 +245,7 @@ module _ (e : Edited) (is : IsRefillable e) where
   old = record { text = laid.text; levels = laid.levels; infos = ps }
 
   abbrev new : Analysed
-  new = record { text = e.text.now; levels = levels_with run laid.levels; infos = qs }
+  new = record { text = e.text.now; levels = e.levels.now; infos = qs }
 
   abbrev all : Analysed → List ℕ → List Line
   all of starts = lines_at tables options margin laid.base of starts
@@ -260,7 +259,7 @@ module _ (e : Edited) (is : IsRefillable e) where
       ∙ sym (ap₂ (λ base (levels : List ℕ). lines_from tables options margin base laid.text levels ps (starts_of ps)) (ap (λ (l : Layout). l.base) from_scratch) (ap (λ (l : Layout). l.levels) from_scratch))
 
   new_lines : all new (starts_of qs) ≡ lines_of rules e.width e.text.now
-  new_lines = ap₂ (λ base (levels : List ℕ). lines_from tables options margin base e.text.now levels qs (starts_of qs)) is.edited.base (sym is.edited.levels_put ∙ is.edited.levels)
+  new_lines = ap₂ (λ base (levels : List ℕ). lines_from tables options margin base e.text.now levels qs (starts_of qs)) (is.same_base ∙ is.edited.base) is.edited.levels
 
   pub starts_are : old_starts e ≡ starts_of ps
   starts_are = ap (map start_of) old_lines ∙ starts_from tables options margin laid.base laid.text laid.levels ps (starts_of ps)
@@ -287,18 +286,20 @@ module _ (e : Edited) (is : IsRefillable e) where
       (length-cluster_ends laid.text)
 
   pub first_old : slice_get (old_starts e) 0 ≡ Some 0
-  first_old = ap (λ (ss : List ℕ). slice_get ss 0) starts_are ∙ some_start options.nobreak e.width ps (omega (arith, old_infos_len, is.edited.run.some.0, is.edited.run.within.0))
+  first_old = ap (λ (ss : List ℕ). slice_get ss 0) starts_are ∙ some_start options.nobreak e.width ps (omega (arith, old_infos_len, is.some.0, is.edited.edit.within.0))
 
-  marks_spliced : marks_of tables options.whole_numbers e.text.now ≡ marks_with run (marks_of tables options.whole_numbers laid.text)
-  marks_spliced = sym is.edited.marks ∙ is.edited.marks_put ∙ ap (marks_with run) marks_are
+  marks_stay : StaysOutside edit (marks_of tables options.whole_numbers laid.text) (marks_of tables options.whole_numbers e.text.now)
+  marks_stay =
+      subst (λ (ms : List Mark). StaysOutside edit ms (marks_of tables options.whole_numbers e.text.now)) marks_are
+      (subst (StaysOutside edit laid.marks) is.edited.marks is.edited.marks_stay)
 
   before : AgreeBefore options old new n
-  before = agree_before tables options is.by_characters laid.text e.text.now run is.edited.run laid.levels is.edited.laid_levels old_marks_len marks_spliced
+  before = agree_before tables options is.by_characters laid.text e.text.now edit is.edited.edit laid.levels e.levels.now is.edited.levels_stay marks_stay
 
   rise : Rise 0 (starts_of ps)
   rise = rises 0 (length ps) (starts_of ps) (starts_rise_to options.nobreak e.width ps)
 
-  -- the line from which filling begins starts before the run
+  -- the line from which filling begins starts before the edited characters
   pub first_low : (line start : ℕ) → slice_get (old_starts e) line ≡ Some start → IsFirstLine (old_starts e) laid.marks n line → start ≤ n
   first_low line start found (inl first) =
       omega (arith, first_start options.nobreak e.width ps start (ap (λ (ss : List ℕ). slice_get ss 0) (sym starts_are) ∙ ap (slice_get (old_starts e)) (sym first) ∙ found))
@@ -324,7 +325,7 @@ module _ (e : Edited) (is : IsRefillable e) where
     start_low = first_low w.line w.start win.line win.first
 
     order : w.start < w.end
-    order = omega (arith, start_low, win.run, is.edited.run.some.1)
+    order = omega (arith, start_low, win.edit, is.some.1)
 
     abbrev m : ℕ
     m = w.end - w.start
@@ -362,7 +363,6 @@ module _ (e : Edited) (is : IsRefillable e) where
           let alike : AreAlike (take t infos) (slice_range qs w.start v) =
           subst (AreAlike (take t infos)) same (subst (λ (xs : List CharInfo). AreAlike xs (take t infos_in)) (take-take t m infos within) (alike_take (take m infos) infos_in t f.alike)) in
           same_lines tables options margin laid.base (slice_range e.text.now w.start v) (slice_range e.levels.now w.start v) (take t infos) (slice_range qs w.start v) starts alike
-          ∙ ap (λ (levels : List ℕ). lines_from tables options margin laid.base (slice_range e.text.now w.start v) (slice_range levels w.start v) (slice_range qs w.start v) starts) is.edited.levels_put
 
       module _ (at_line : MeetsLine e w.start ws meet) where
         line_found : slice_get (starts_of infos_in) meet.lines ≡ Some meet.len
@@ -383,12 +383,12 @@ module _ (e : Edited) (is : IsRefillable e) where
               | inr none ↦
                   let zeroth : meet.lines ≡ 0 = omega (arith, none) in
                   let start = first_start options.nobreak e.width infos_in meet.len (ap (slice_get (starts_of infos_in)) (sym zeroth) ∙ line_found) in
-                  absurd (omega (arith, start, at_line.after_run, start_low))
+                  absurd (omega (arith, start, at_line.after_edit, start_low))
             ]
 
         after : AgreeAfter options old new meet.old_start v
         after =
-            agree_after tables options is.by_characters laid.text e.text.now run is.edited.run laid.levels is.edited.laid_levels old_marks_len marks_spliced meet.old_start v at_line.after_run at_line.same
+            agree_after tables options is.by_characters laid.text e.text.now edit is.edited.edit laid.levels e.levels.now is.edited.levels_stay marks_stay meet.old_start v at_line.after_edit at_line.same
             (omega (arith, len_below, win.within, order)) at_line.split
 
         new_starts : starts_of qs
@@ -477,8 +477,8 @@ module _ (e : Edited) (is : IsRefillable e) where
       pub gap_order : w.start ≤ meet.old_start
       gap_order =
           elim f.meets [
-            | inl at_line ↦ omega (arith, at_line.after_run, at_line.same, start_low)
-            | inr at_end ↦ omega (arith, at_end.old_start, start_low, is.edited.run.within.0)
+            | inl at_line ↦ omega (arith, at_line.after_edit, at_line.same, start_low)
+            | inr at_end ↦ omega (arith, at_end.old_start, start_low, is.edited.edit.within.0)
           ]
 
       pub gap_within : meet.old_start ≤ length laid.text
@@ -590,7 +590,7 @@ module _ (e : Edited) (is : IsRefillable e) where
         line = omega (arith, slice_get_within (old_starts e) w.line w.start win.line, length-map laid.lines start_of);
         starts = get_or_from_slice_get (old_starts e) w.line w.start 0 win.line;
         first = first_line_is;
-        base = is.edited.base;
+        base = is.same_base ∙ is.edited.base;
         tab_width = ap (λ (l : Layout). l.tab_width) from_scratch;
         advances = (is.unmeasured, refl);
         text = sym (take-take w.start n laid.text start_low) ∙ ap (take w.start) before.text ∙ take-take w.start n e.text.now start_low;
@@ -609,7 +609,7 @@ module _ (e : Edited) (is : IsRefillable e) where
                         | inr none ↦
                             let zeroth : meet.old_line ≡ 0 = omega (arith, none) in
                             let start : meet.old_start ≡ 0 = same_Some meet.old_start 0 (sym at_line.old_line ∙ ap (slice_get (old_starts e)) zeroth ∙ first_old) in
-                            absurd (omega (arith, start, at_line.after_run, at_line.same))
+                            absurd (omega (arith, start, at_line.after_edit, at_line.same))
                       ];
                   within = (omega (arith, old_size, slice_get_within (old_starts e) meet.old_line meet.old_start at_line.old_line), (after at_line).within.0);
                   rest = (after at_line).text;

@@ -3,18 +3,19 @@ use Rattle.std.proofs.Common.{◌≡◌, ℕ, zero, suc, ◌+◌, ◌*◌, ◌-�
 use Rattle.std.proofs.Common.{drop, get_or, refl, sym, ap, ap₂, subst, ◌∙◌, take-take, drop-drop, below_more, length-append, arith, inl, inr}
 use borrow.Rule.Slice.PartMut.{put_mid}
 use Rattle.std.proofs.lemmas.Bool.{cases_eq, cases_lt}
-use Rattle.std.proofs.lemmas.List.{length-drop, length-take, length-take-le, take_more}
+use Rattle.std.proofs.lemmas.List.{length-drop, length-take, length-take-le, take_all, take_more}
 use Rattle.std.proofs.lemmas.Slice.{between_is, between-put_mid, drop-put_mid, take-put_mid_below}
 use Rattle.std.specs.List.{slice_range, All}
 use Rattle.ucd.specs.Tables.{class_of}
 use Rattle.ucd.specs.declared.bidi_class.BidiClass.{BidiClass}
 use Rattle.ucd.specs.declared.tables.Tables.{Tables}
 use Rattle.ucd.specs.Within.{AreWithin}
-use Rattle.lines.specs.Extents.{shown_between, shown_from}
+use Rattle.lines.specs.Extents.{shown_between, shown_from, LineExtents}
 use Rattle.lines.specs.Filling.{columns}
 use Rattle.lines.specs.ShownParts.{shown, shown_len}
 use Rattle.lines.specs.Kept.{AreStarts, IsSound, line_in, lines_by, lines_in}
 use Rattle.lines.specs.Layouts.{AreWithin as LinesAreWithin}
+use Rattle.lines.specs.Paragraphs.{IsLineAt}
 use Rattle.reorder.specs.Mirroring.{visual_chars}
 use Rattle.lines.specs.Reordering.{ends_by, ltov_by, vtol_by}
 use Rattle.lines.specs.Showing.{line_showing, lines_shown, nothing_shown, AreShown, IsPlaced, IsShown}
@@ -23,6 +24,8 @@ use Rattle.lines.specs.Visual.{Line, end_of}
 use Rattle.lines.specs.declared.options.Options.{Options}
 use Rattle.lines.specs.declared.char_info.CharInfo.{CharInfo}
 use Rattle.lines.specs.declared.fill.Shown.{Shown}
+use Rattle.lines.specs.declared.paragraph.LineSlice.{LineSlice}
+use Rattle.lines.specs.declared.paragraph.Text.{Text}
 
 -- ---- where a line ends
 
@@ -137,15 +140,14 @@ length_range xs s e order within = length-take-le (e - s) (drop s xs) (omega (ar
 
 -- The lists after the first k lines were written. From the start of the next line on, the levels are still
 -- those of `old`.
-pub record Showing (tables : Tables) (options : Options) (base : ℕ) (text old : List ℕ) (starts : List ℕ) (k : ℕ) (parts : List Shown)
-    (levels ltov vtol chars : List ℕ) : Type 0 where
-  pub so_far : AreShown tables options base text old starts k parts levels ltov vtol chars
-  pub k_within : k ≤ length starts
-  pub levels_len : length levels ≡ length text
-  pub ltov_len : length ltov ≡ length text
-  pub vtol_len : length vtol ≡ length text
-  pub chars_len : length chars ≡ length text
-  pub rest : k < length starts → drop (get_or starts k 0) levels ≡ drop (get_or starts k 0) old
+pub record Showing (text : Text) (old : List ℕ) (extents : LineExtents) (k : ℕ) (levels ltov vtol chars : List ℕ) : Type 0 where
+  pub so_far : AreShown text.rules.tables.now text.rules.options text.base text.characters.now old extents.starts k extents.shown levels ltov vtol chars
+  pub k_within : k ≤ length extents.starts
+  pub levels_len : length levels ≡ length text.characters.now
+  pub ltov_len : length ltov ≡ length text.characters.now
+  pub vtol_len : length vtol ≡ length text.characters.now
+  pub chars_len : length chars ≡ length text.characters.now
+  pub rest : k < length extents.starts → drop (get_or extents.starts k 0) levels ≡ drop (get_or extents.starts k 0) old
 
 abbrev line_of : ℕ → ℕ → List ℕ → List ℕ → List ℕ → List ℕ → Line
 line_of s c l t v h = record { start = s; columns = c; levels = l; ltov = t; vtol = v; chars = h }
@@ -210,48 +212,74 @@ module _ (tables : Tables) (options : Options) (base : ℕ) (text old : List ℕ
         vtol_within = subst (λ (xs : List ℕ). AreWithin n xs) (sym vtol_here) is.vtol_within;
       }
 
-  -- if the lists hold the first k lines, writing line k makes them hold the first k + 1
-  pub show_more : (starts : List ℕ) (k e : ℕ) (part : Shown) (parts : List Shown) (levels ltov vtol chars l t v h : List ℕ)
-      → AreStarts (length text) starts → k < length starts → e ≡ end_of (length text) starts k
-      → Showing tables options base text old starts k parts levels ltov vtol chars
-      → IsShown tables options base (slice_range (ends_by options text) (get_or starts k 0) e) (slice_range text (get_or starts k 0) e)
-      (slice_range levels (get_or starts k 0) e) part l t v h
-      → length l ≡ e - get_or starts k 0 → length t ≡ e - get_or starts k 0 → length v ≡ e - get_or starts k 0 → length h ≡ e - get_or starts k 0
-      → part ≡ get_or parts k nothing_shown
-      → Showing tables options base text old starts (k + 1) parts
-      (put_mid (get_or starts k 0) (e - get_or starts k 0) levels l) (put_mid (get_or starts k 0) (e - get_or starts k 0) ltov t)
-      (put_mid (get_or starts k 0) (e - get_or starts k 0) vtol v) (put_mid (get_or starts k 0) (e - get_or starts k 0) chars h)
-  show_more starts k e part parts levels ltov vtol chars l t v h are below e_is kept_so is sl st sv sh last =
-      let n : ℕ = length text in
-      let s : ℕ = get_or starts k 0 in
-      let m : ℕ = e - s in
-      let w = end_within n starts k are below in
-      let some : s < e = omega (arith, w.0, e_is) in
-      let within : e ≤ n = omega (arith, w.1, e_is) in
-      let wl : s ≤ length levels = omega (arith, kept_so.levels_len, some, within) in
-      let wt : s ≤ length ltov = omega (arith, kept_so.ltov_len, some, within) in
-      let wv : s ≤ length vtol = omega (arith, kept_so.vtol_len, some, within) in
-      let wh : s ≤ length chars = omega (arith, kept_so.chars_len, some, within) in
-      let now = placed_now s e part levels ltov vtol chars l t v h is some within kept_so.levels_len kept_so.ltov_len kept_so.vtol_len kept_so.chars_len sl st sv sh (kept_so.rest below) in
-      record {
-        so_far = below_more (λ (j : ℕ). IsPlaced tables options base text old (get_or starts j 0) (end_of n starts j) (get_or parts j nothing_shown)
-            (put_mid s m levels l) (put_mid s m ltov t) (put_mid s m vtol v) (put_mid s m chars h)) k
-            (λ j h2. placed_still _ _ s m _ levels ltov vtol chars l t v h (kept_so.so_far j h2) (ends_before n starts j k are h2 below) wl wt wv wh)
-            (subst (λ (p : Shown). IsPlaced tables options base text old s (end_of n starts k) p
-            (put_mid s m levels l) (put_mid s m ltov t) (put_mid s m vtol v) (put_mid s m chars h)) last
-            (subst (λ (x : ℕ). IsPlaced tables options base text old s x part
-            (put_mid s m levels l) (put_mid s m ltov t) (put_mid s m vtol v) (put_mid s m chars h)) e_is now));
-        k_within = omega (arith, below);
-        levels_len = length_put s m levels l wl sl (omega (arith, kept_so.levels_len, some, within)) ∙ kept_so.levels_len;
-        ltov_len = length_put s m ltov t wt st (omega (arith, kept_so.ltov_len, some, within)) ∙ kept_so.ltov_len;
-        vtol_len = length_put s m vtol v wv sv (omega (arith, kept_so.vtol_len, some, within)) ∙ kept_so.vtol_len;
-        chars_len = length_put s m chars h wh sh (omega (arith, kept_so.chars_len, some, within)) ∙ kept_so.chars_len;
-        rest = λ h2.
-            let next : e ≡ get_or starts (k + 1) 0 = e_is ∙ sym (end_next n starts k h2) in
-            let whole : s + m ≤ get_or starts (k + 1) 0 = omega (arith, next, some) in
-            drop-put_mid s m levels l (get_or starts (k + 1) 0) whole wl sl
-            ∙ drop_later s (get_or starts (k + 1) 0) levels old (omega (arith, next, some)) (kept_so.rest below);
-      }
+-- if the lists hold the first k lines, writing line k makes them hold the first k + 1
+pub show_more : (text : Text) (old : List ℕ) (extents : LineExtents) (k : ℕ) (line : LineSlice) (levels ltov vtol chars l t v h : List ℕ)
+    → AreStarts (length text.characters.now) extents.starts → k < length extents.starts → IsLineAt text extents k line
+    → Showing text old extents k levels ltov vtol chars
+    → IsShown line.text.rules.tables.now line.text.rules.options line.text.base line.text.ends.now line.text.characters.now (slice_range levels line.start line.end) line.shown l t v h
+    → length l ≡ line.end - line.start → length t ≡ line.end - line.start → length v ≡ line.end - line.start → length h ≡ line.end - line.start
+    → Showing text old extents (k + 1) (put_mid line.start (line.end - line.start) levels l) (put_mid line.start (line.end - line.start) ltov t)
+    (put_mid line.start (line.end - line.start) vtol v) (put_mid line.start (line.end - line.start) chars h)
+show_more text old extents k line levels ltov vtol chars l t v h are below at so is sl st sv sh =
+    let tables = text.rules.tables.now in
+    let options = text.rules.options in
+    let base = text.base in
+    let all : List ℕ = text.characters.now in
+    let starts = extents.starts in
+    let s : ℕ = line.start in
+    let m : ℕ = line.end - s in
+    let wl : s ≤ length levels = omega (arith, so.levels_len, at.order, at.within) in
+    let wt : s ≤ length ltov = omega (arith, so.ltov_len, at.order, at.within) in
+    let wv : s ≤ length vtol = omega (arith, so.vtol_len, at.order, at.within) in
+    let wh : s ≤ length chars = omega (arith, so.chars_len, at.order, at.within) in
+    let rest : drop s levels ≡ drop s old = rw at.start (so.rest below) in
+    let now = placed_now tables options base all old s line.end line.shown levels ltov vtol chars l t v h
+    (rw (sym at.ends, sym at.characters, sym at.rules, sym at.base) is) at.order at.within so.levels_len so.ltov_len so.vtol_len so.chars_len sl st sv sh rest in
+    record {
+      so_far = below_more (λ (j : ℕ). IsPlaced tables options base all old (get_or starts j 0) (end_of (length all) starts j) (get_or extents.shown j nothing_shown)
+          (put_mid s m levels l) (put_mid s m ltov t) (put_mid s m vtol v) (put_mid s m chars h)) k
+          (λ j h2. placed_still tables options base all old _ _ s m _ levels ltov vtol chars l t v h (so.so_far j h2)
+          (omega (arith, at.start, ends_before (length all) starts j k are h2 below)) wl wt wv wh)
+          (rw (sym at.start, sym at.end, sym at.shown) now);
+      k_within = omega (arith, below);
+      levels_len = length_put s m levels l wl sl (omega (arith, so.levels_len, at.order, at.within)) ∙ so.levels_len;
+      ltov_len = length_put s m ltov t wt st (omega (arith, so.ltov_len, at.order, at.within)) ∙ so.ltov_len;
+      vtol_len = length_put s m vtol v wv sv (omega (arith, so.vtol_len, at.order, at.within)) ∙ so.vtol_len;
+      chars_len = length_put s m chars h wh sh (omega (arith, so.chars_len, at.order, at.within)) ∙ so.chars_len;
+      rest = λ h2.
+          let next : line.end ≡ get_or starts (k + 1) 0 = at.end ∙ sym (end_next (length all) starts k h2) in
+          drop-put_mid s m levels l (get_or starts (k + 1) 0) (omega (arith, next, at.order)) wl sl
+          ∙ drop_later s (get_or starts (k + 1) 0) levels old (omega (arith, next, at.order)) rest;
+    }
+
+-- the lists of a paragraph of one line hold this line
+pub shown_alone : (tables : Tables) (options : Options) (base : ℕ) (text old : List ℕ) (part : Shown) (l t v h : List ℕ)
+    → length old ≡ length text → slice_range (ends_by options text) 0 (length text) ≡ ends_by options text
+    → IsShown tables options base (ends_by options text) text old part l t v h
+    → AreShown tables options base text old (0 ∷ []) 1 (part ∷ []) l t v h
+shown_alone tables options base text old part l t v h len ends_whole is (suc j) below = absurd (omega (arith, below))
+shown_alone tables options base text old part l t v h len ends_whole is zero below =
+    let n : ℕ = length text in
+    let m : ℕ = part.len in
+    let text_whole : slice_range text 0 n ≡ text = take_all (n - 0) text (omega arith) in
+    let old_whole : slice_range old 0 n ≡ old = take_all (n - 0) old (omega (arith, len)) in
+    let front : (xs : List ℕ) → slice_range xs 0 (0 + m) ≡ take m xs = λ (xs : List ℕ). ap (λ (k : ℕ). take k xs) (omega arith) in
+    let levels_of : List ℕ → List ℕ → List ℕ = λ line levels. take m (line_levels base (map (class_of tables) line) levels) in
+    let ltov_of : List ℕ → List Bool → List ℕ → List ℕ = λ line ends levels. ltov_by options (map (class_of tables) line) ends levels in
+    let vtol_of : List ℕ → List Bool → List ℕ → List ℕ = λ line ends levels. vtol_by options (map (class_of tables) line) ends levels in
+    let chars_of : List ℕ → List Bool → List ℕ → List ℕ = λ line ends levels. visual_chars tables levels (take m line) (vtol_of line ends levels) in
+    let ends : List Bool = ends_by options text in
+    let seen : List ℕ → List Bool → List ℕ → Line =
+    λ line es levels. line_of 0 part.columns (levels_of line levels) (ltov_of line es (levels_of line levels)) (vtol_of line es (levels_of line levels)) (chars_of line es (levels_of line levels)) in
+    record {
+      line_is = same_line 0 part.columns part.columns _ _ _ _ _ _ _ _ refl (front l ∙ is.levels_are) (front t ∙ is.ltov_is ∙ ap (ltov_of text ends) is.levels_are)
+          (front v ∙ is.vtol_is ∙ ap (vtol_of text ends) is.levels_are) (front h ∙ is.chars_are ∙ ap (chars_of text ends) is.levels_are)
+          ∙ ap (λ (line : List ℕ). seen line ends old) (sym text_whole)
+          ∙ ap (λ (es : List Bool). seen (slice_range text 0 n) es old) (sym ends_whole)
+          ∙ ap (seen (slice_range text 0 n) (slice_range ends 0 n)) (sym old_whole);
+      within = omega (arith, is.within);
+      vtol_within = subst (λ (xs : List ℕ). AreWithin m xs) (sym (front v)) is.vtol_within;
+    }
 
 -- if levels, starts and shown parts are equal, the lists hold the same lines
 pub shown_as : (tables : Tables) (options : Options) (base : ℕ) (text old seen starts seen_starts : List ℕ) (parts seen_parts : List Shown) {levels ltov vtol chars : List ℕ}

@@ -2,13 +2,13 @@
 use Rattle.std.proofs.Common.{◌≡◌, ℕ, zero, suc, ◌+◌, ◌-◌, ◌<◌, ◌≤◌, Bool, true, false, not, ◌&&◌, ◌⊎◌, Option, Some, None, List, [], ◌∷◌, ◌++◌, length, map, take, drop, get_or}
 use Rattle.std.proofs.Common.{slice_range, if◌then◌else◌, refl, sym, ap, ap₂, subst, ◌∙◌, inl, inr, arith}
 use Rattle.std.specs.List.{list_all, suffix_len}
-use Rattle.std.proofs.lemmas.Bool.{and_left, and_parts, both_ways, cases_Bool, cases_eq, cond-true, cond-false, not-true, or_parts}
+use Rattle.std.proofs.lemmas.Bool.{and_from, and_left, and_parts, both_ways, cases_Bool, cases_eq, cond-true, cond-false, not-true, or_parts}
 use Rattle.std.proofs.lemmas.List.{append-nil, get_or-map, get_or-take, get_or_default, length-map, length-take-le, take_all}
 use Rattle.std.proofs.lemmas.List.Sums.{AllPass-from_list_all, list_all-from_AllPass, suffix_len_is}
 use Rattle.ucd.specs.Properties.{properties_of}
 use Rattle.ucd.specs.Tables.{class_of, is_mark_in, line_class_of}
 use Rattle.ucd.specs.declared.line_class.LineClass.{LineClass}
-use Rattle.ucd.specs.declared.line_class.LineClass.TheVariants.{AK, AP, AS, BK, CR, HH, LF, NL, SA, VF, VI}
+use Rattle.ucd.specs.declared.line_class.LineClass.TheVariants.{AK, AP, AS, BK, CM, CR, HH, LF, NL, SA, SP, VF, VI, ZW, ZWJ}
 use Rattle.ucd.specs.declared.version.Version.{Version}
 use Rattle.ucd.specs.declared.version.Version.TheVariants.{V15_0, V17_0}
 use Rattle.ucd.specs.declared.properties.Properties.{Properties}
@@ -31,7 +31,7 @@ use Rattle.lines.specs.CharInfos.{infos, infos_of, may_trail, trailing_in}
 use Rattle.reorder.specs.Spaces.{line_levels}
 use Rattle.lines.specs.Tabs.{tab_width_in}
 use Rattle.lines.specs.Visual.{Line, Visual, line_between, lines_from, visual_of}
-use Rattle.lines.specs.Whole.{ends_line, may_go_on, IsShownLen, IsWhole}
+use Rattle.lines.specs.Whole.{ends_line, is_cr, is_lf, may_go_on, EndsInCrLf, IsEndLen, IsShownLen, IsWhole}
 use Rattle.lines.specs.declared.options.Options.{Options}
 use Rattle.lines.specs.declared.char_info.CharInfo.{CharInfo}
 use Rattle.lines.specs.declared.printing.print.Print.{Print}
@@ -129,6 +129,48 @@ quiet_rules V17_0 false before after b a ends = (
   ),
 )
 
+-- ---- the rule for CR LF, LB5
+
+-- whether the first rule that applies, if any, has a mark other than `Must`
+Settled : List Rule → List BaseCharacter → List BaseCharacter → Type 0
+Settled [] before after = Unit {0}
+Settled (rule ∷ rules) before after =
+    ((rule.holds before after ≡ false) × Settled rules before after) ⊎ ((rule.holds before after ≡ true) × (is_must rule.mark ≡ false))
+
+settled_mark : (rules : List Rule) (before after : List BaseCharacter) → Settled rules before after → is_must (mark_by rules before after) ≡ false
+unfolding Settled
+settled_mark [] before after settled = refl
+settled_mark (rule ∷ rules) before after (inl later) =
+    ap is_must (cond-false (rule.holds before after) rule.mark (mark_by rules before after) later.0) ∙ settled_mark rules before after later.1
+settled_mark (rule ∷ rules) before after (inr here) =
+    ap is_must (cond-true (rule.holds before after) rule.mark (mark_by rules before after) here.0) ∙ here.1
+
+-- CR is not BK, and LF joins no character
+cr_is_no_bk : (class : LineClass) → is_one_of (CR ∷ []) class ≡ true → is_one_of (BK ∷ []) class ≡ false
+cr_is_no_bk BK is = absurd (both_ways (is_one_of (CR ∷ []) BK) refl is)
+cr_is_no_bk class is = refl
+
+lf_joins_none : (class : LineClass) → is_lf class ≡ true → is_one_of (CM ∷ ZWJ ∷ []) class ≡ false
+lf_joins_none CM is = absurd (both_ways (is_lf CM) refl is)
+lf_joins_none ZWJ is = absurd (both_ways (is_lf ZWJ) refl is)
+lf_joins_none class is = refl
+
+-- a character CR and a character LF, and such bases
+abbrev AreCrLf : Character → Character → Type 0
+AreCrLf c d = (is_cr c.class ≡ true) × (is_lf d.class ≡ true)
+
+settled_rules : (v : Version) (whole_numbers : Bool) (before after : List BaseCharacter) (b a : BaseCharacter) → AreCrLf b.first a.first
+    → Settled (rules v whole_numbers) (b ∷ before) (a ∷ after)
+unfolding Settled rules rows_before_numbers rows_of_numbers rows_after_numbers
+settled_rules V15_0 true before after b a are =
+    inl (refl, inl (and_left (is_one_of (BK ∷ []) (base_class_of b)) true (cr_is_no_bk (base_class_of b) are.0), inr (and_from (is_cr b.first.class) (is_lf a.first.class) are.0 are.1, refl)))
+settled_rules V15_0 false before after b a are =
+    inl (refl, inl (and_left (is_one_of (BK ∷ []) (base_class_of b)) true (cr_is_no_bk (base_class_of b) are.0), inr (and_from (is_cr b.first.class) (is_lf a.first.class) are.0 are.1, refl)))
+settled_rules V17_0 true before after b a are =
+    inl (refl, inl (and_left (is_one_of (BK ∷ []) (base_class_of b)) true (cr_is_no_bk (base_class_of b) are.0), inr (and_from (is_cr b.first.class) (is_lf a.first.class) are.0 are.1, refl)))
+settled_rules V17_0 false before after b a are =
+    inl (refl, inl (and_left (is_one_of (BK ∷ []) (base_class_of b)) true (cr_is_no_bk (base_class_of b) are.0), inr (and_from (is_cr b.first.class) (is_lf a.first.class) are.0 are.1, refl)))
+
 -- ---- the marks of bases after which a line need not end
 
 -- whether no mark except the last is mandatory
@@ -137,11 +179,11 @@ Tame [] = Unit {0}
 Tame (m ∷ []) = Unit {0}
 Tame (m ∷ n ∷ marks) = (is_must m ≡ false) × Tame (n ∷ marks)
 
--- whether no base except the last requires a line to end after it
+-- whether no base except the last requires a line to end after it, or the last two are CR LF
 QuietBases : List BaseCharacter → Type 0
 QuietBases [] = Unit {0}
 QuietBases (b ∷ []) = Unit {0}
-QuietBases (b ∷ a ∷ bases) = ends_no_line b × QuietBases (a ∷ bases)
+QuietBases (b ∷ a ∷ bases) = (ends_no_line b ⊎ ((bases ≡ []) × AreCrLf b.first a.first)) × QuietBases (a ∷ bases)
 
 tame_before : (m : Mark) (marks : List Mark) → is_must m ≡ false → Tame marks → Tame (m ∷ marks)
 unfolding Tame
@@ -159,7 +201,10 @@ tame_marks v whole_numbers before (b ∷ []) quiet = tame_inside b.attached (mar
 tame_marks v whole_numbers before (b ∷ a ∷ bases) quiet =
     tame_inside b.attached (mark_by (rules v whole_numbers) (b ∷ before) (a ∷ bases) ∷ marks_after (rules v whole_numbers) (b ∷ before) (a ∷ bases))
     (tame_before (mark_by (rules v whole_numbers) (b ∷ before) (a ∷ bases)) (marks_after (rules v whole_numbers) (b ∷ before) (a ∷ bases))
-    (quiet_mark (rules v whole_numbers) (b ∷ before) (a ∷ bases) (quiet_rules v whole_numbers before bases b a quiet.0))
+    (elim quiet.0 [
+      | inl ends ↦ quiet_mark (rules v whole_numbers) (b ∷ before) (a ∷ bases) (quiet_rules v whole_numbers before bases b a ends)
+      | inr pair ↦ settled_mark (rules v whole_numbers) (b ∷ before) (a ∷ bases) (settled_rules v whole_numbers before bases b a pair.1)
+    ])
     (tame_marks v whole_numbers (b ∷ before) (a ∷ bases) quiet.1))
 
 -- ---- the bases of characters after which a line need not end
@@ -167,25 +212,38 @@ tame_marks v whole_numbers before (b ∷ a ∷ bases) quiet =
 abbrev ends_none : Character → Type 0
 ends_none c = (is_one_of (BK ∷ []) (base_class c.class) ≡ false) × (is_one_of (CR ∷ LF ∷ NL ∷ []) (base_class c.class) ≡ false)
 
--- whether no character except the last requires a line to end after it
+-- whether no character except the last requires a line to end after it, or the last two are CR LF
 QuietText : List Character → Type 0
 QuietText [] = Unit {0}
 QuietText (c ∷ []) = Unit {0}
-QuietText (c ∷ d ∷ text) = ends_none c × QuietText (d ∷ text)
+QuietText (c ∷ d ∷ text) = (ends_none c ⊎ ((text ≡ []) × AreCrLf c d)) × QuietText (d ∷ text)
+
+no_more : (t : Tables) (text : List ℕ) → length text ≡ 0 → map (character t) text ≡ []
+no_more t [] none = refl
+no_more t (c ∷ text) none = absurd (omega (arith, none))
 
 whole_quiet : (t : Tables) (text : List ℕ) → IsWhole t text → QuietText (map (character t) text)
 unfolding QuietText
 whole_quiet t [] is = tt
 whole_quiet t (c ∷ []) is = tt
 whole_quiet t (c ∷ d ∷ text) is = (
-  or_parts (is_one_of (BK ∷ []) (base_class (character t c).class)) (is_one_of (CR ∷ LF ∷ NL ∷ []) (base_class (character t c).class)) (is 0 (omega arith)),
-  whole_quiet t (d ∷ text) (λ j below. is (suc j) (omega arith)),
+  elim (is 0 (omega arith)) [
+    | inl goes_on ↦ inl (or_parts (is_one_of (BK ∷ []) (base_class (character t c).class)) (is_one_of (CR ∷ LF ∷ NL ∷ []) (base_class (character t c).class)) goes_on)
+    | inr pair ↦ inr (no_more t text (omega (arith, pair.last)), (pair.cr, pair.lf))
+  ],
+  whole_quiet t (d ∷ text) (λ j below.
+      elim (is (suc j) (omega arith)) [
+        | inl goes_on ↦ inl goes_on
+        | inr pair ↦
+            let next : suc j + 1 ≡ suc (j + 1) = omega arith in
+            inr (record { last = omega (arith, pair.last); cr = pair.cr; lf = subst (λ i. is_lf (character t (get_or (c ∷ d ∷ text) i 0)).class ≡ true) next pair.lf })
+      ]),
 )
 
 quiet_before : (b : BaseCharacter) (bases : List BaseCharacter) → ends_no_line b → QuietBases bases → QuietBases (b ∷ bases)
 unfolding QuietBases
 quiet_before b [] ends quiet = tt
-quiet_before b (a ∷ bases) ends quiet = (ends, quiet)
+quiet_before b (a ∷ bases) ends quiet = (inl ends, quiet)
 
 rest_quiet : (b : BaseCharacter) (bases : List BaseCharacter) → QuietBases (b ∷ bases) → QuietBases bases
 unfolding QuietBases
@@ -197,19 +255,33 @@ unfolding QuietBases
 joined_quiet c [] ends quiet = tt
 joined_quiet c (b ∷ bases) ends quiet = quiet_before (record { first = c; attached = b.first ∷ b.attached }) bases ends (rest_quiet b bases quiet)
 
+pair_quiet : (c d : Character) → AreCrLf c d → QuietBases (bases_of (c ∷ d ∷ []))
+unfolding QuietBases
+pair_quiet c d are =
+    let joins : Bool = is_one_of (CM ∷ ZWJ ∷ []) d.class in
+    let apart = and_left joins (not (is_one_of (BK ∷ CR ∷ LF ∷ NL ∷ SP ∷ ZW ∷ []) c.class)) (lf_joins_none d.class are.1) in
+    subst (λ (bases : List BaseCharacter). QuietBases bases) (sym (cond-false (stays_with c d) (joined c (alone d ∷ [])) (alone c ∷ alone d ∷ []) apart))
+    (inr (refl, are), tt)
+
+before_quiet : (c d : Character) (text : List Character) → ends_none c → QuietBases (bases_of (d ∷ text)) → QuietBases (bases_of (c ∷ d ∷ text))
+before_quiet c d text ends rest =
+    elim (cases_Bool (stays_with c d)) [
+      | inl stays ↦
+          subst (λ (bases : List BaseCharacter). QuietBases bases) (sym (cond-true (stays_with c d) (joined c (bases_of (d ∷ text))) (alone c ∷ bases_of (d ∷ text)) stays))
+          (joined_quiet c (bases_of (d ∷ text)) ends rest)
+      | inr apart ↦
+          subst (λ (bases : List BaseCharacter). QuietBases bases) (sym (cond-false (stays_with c d) (joined c (bases_of (d ∷ text))) (alone c ∷ bases_of (d ∷ text)) apart))
+          (quiet_before (alone c) (bases_of (d ∷ text)) ends rest)
+    ]
+
 bases_quiet : (text : List Character) → QuietText text → QuietBases (bases_of text)
 unfolding QuietBases QuietText
 bases_quiet [] quiet = tt
 bases_quiet (c ∷ []) quiet = tt
 bases_quiet (c ∷ d ∷ text) quiet =
-    let rest = bases_quiet (d ∷ text) quiet.1 in
-    elim (cases_Bool (stays_with c d)) [
-      | inl stays ↦
-          subst (λ (bases : List BaseCharacter). QuietBases bases) (sym (cond-true (stays_with c d) (joined c (bases_of (d ∷ text))) (alone c ∷ bases_of (d ∷ text)) stays))
-          (joined_quiet c (bases_of (d ∷ text)) quiet.0 rest)
-      | inr apart ↦
-          subst (λ (bases : List BaseCharacter). QuietBases bases) (sym (cond-false (stays_with c d) (joined c (bases_of (d ∷ text))) (alone c ∷ bases_of (d ∷ text)) apart))
-          (quiet_before (alone c) (bases_of (d ∷ text)) quiet.0 rest)
+    elim quiet.0 [
+      | inl ends ↦ before_quiet c d text ends (bases_quiet (d ∷ text) quiet.1)
+      | inr pair ↦ subst (λ (rest : List Character). QuietBases (bases_of (c ∷ d ∷ rest))) (sym pair.0) (pair_quiet c d pair.1)
     ]
 
 pub quiet_marks : (t : Tables) (whole_numbers : Bool) (text : List ℕ) → IsWhole t text → Tame (marks_of t whole_numbers text)
@@ -355,30 +427,92 @@ known_ends V15_0 VI is_mark = refl
 known_ends V15_0 SA is_mark = refl
 known_ends V15_0 class is_mark = refl
 
-module _ (t : Tables) (text : List ℕ) where
-  -- the properties of all characters but the last
+known_cr : (v : Version) (class : LineClass) (is_mark : Bool) → is_cr (resolved (known v class) is_mark) ≡ is_cr (resolved class is_mark)
+known_cr V17_0 class is_mark = refl
+known_cr V15_0 AK is_mark = refl
+known_cr V15_0 AP is_mark = refl
+known_cr V15_0 AS is_mark = refl
+known_cr V15_0 HH is_mark = refl
+known_cr V15_0 VF is_mark = refl
+known_cr V15_0 VI is_mark = refl
+known_cr V15_0 SA is_mark = refl
+known_cr V15_0 class is_mark = refl
+
+known_lf : (v : Version) (class : LineClass) (is_mark : Bool) → is_lf (resolved (known v class) is_mark) ≡ is_lf (resolved class is_mark)
+known_lf V17_0 class is_mark = refl
+known_lf V15_0 AK is_mark = refl
+known_lf V15_0 AP is_mark = refl
+known_lf V15_0 AS is_mark = refl
+known_lf V15_0 HH is_mark = refl
+known_lf V15_0 VF is_mark = refl
+known_lf V15_0 VI is_mark = refl
+known_lf V15_0 SA is_mark = refl
+known_lf V15_0 class is_mark = refl
+
+-- a test of a looked-up class for CR, and one for LF
+pub cr_at : (t : Tables) (text : List ℕ) (k : ℕ) (p : Properties) (class : LineClass) (found : Bool) → p ≡ properties_of t (get_or text k 0) → class ≡ p.line_class
+    → ((is_mark : Bool) → found ≡ is_cr (resolved class is_mark)) → found ≡ is_cr (character t (get_or text k 0)).class
+cr_at t text k p class found known line test =
+    let c : ℕ = get_or text k 0 in
+    test (is_mark_in t c) ∙ ap (λ (l : LineClass). is_cr (resolved l (is_mark_in t c))) (line ∙ ap (λ (p : Properties). p.line_class) known)
+    ∙ sym (known_cr t.version (line_class_of t c) (is_mark_in t c))
+
+pub lf_at : (t : Tables) (text : List ℕ) (k : ℕ) (p : Properties) (class : LineClass) (found : Bool) → p ≡ properties_of t (get_or text k 0) → class ≡ p.line_class
+    → ((is_mark : Bool) → found ≡ is_lf (resolved class is_mark)) → found ≡ is_lf (character t (get_or text k 0)).class
+lf_at t text k p class found known line test =
+    let c : ℕ = get_or text k 0 in
+    test (is_mark_in t c) ∙ ap (λ (l : LineClass). is_lf (resolved l (is_mark_in t c))) (line ∙ ap (λ (p : Properties). p.line_class) known)
+    ∙ sym (known_lf t.version (line_class_of t c) (is_mark_in t c))
+
+module _ (t : Tables) (text : List ℕ) (end : ℕ) (is_end : IsEndLen t text end) where
+  -- the properties of all characters before the end
   abbrev pub tested : List Properties
-  tested = take (length text - 1) (map (properties_of t) text)
+  tested = take (length text - end) (map (properties_of t) text)
 
-  at_place : (j : ℕ) → j + 1 < length text → get_or tested j (properties_of t 0) ≡ properties_of t (get_or text j 0)
+  some_end : (end ≡ 1) ⊎ (end ≡ 2)
+  some_end = elim is_end [ inl pair ↦ inr pair.1 | inr other ↦ inl other.1 ]
+
+  at_place : (j : ℕ) → j + end < length text → get_or tested j (properties_of t 0) ≡ properties_of t (get_or text j 0)
   at_place j below =
-      get_or-take (length text - 1) (map (properties_of t) text) j (properties_of t 0) (omega (arith, below)) ∙ get_or-map (properties_of t) text j 0 (properties_of t 0) (omega (arith, below))
+      get_or-take (length text - end) (map (properties_of t) text) j (properties_of t 0) (omega (arith, below)) ∙ get_or-map (properties_of t) text j 0 (properties_of t 0) (omega (arith, below))
 
-  size_tested : length tested ≡ length text - 1
-  size_tested = length-take-le (length text - 1) (map (properties_of t) text) (omega (arith, length-map text (properties_of t)))
+  size_tested : length tested ≡ length text - end
+  size_tested = length-take-le (length text - end) (map (properties_of t) text) (omega (arith, length-map text (properties_of t)))
 
-  pub whole_by : list_all may_go_on tested ≡ true → IsWhole t text
-  whole_by all j below =
+  goes_on : (j : ℕ) → list_all may_go_on tested ≡ true → j + end < length text → ends_line (character t (get_or text j 0)).class ≡ false
+  goes_on j all below =
       let passes = AllPass-from_list_all may_go_on tested all j (properties_of t 0) (omega (arith, size_tested, below)) in
       let c : ℕ = get_or text j 0 in
       not-true (ends_line (character t (get_or text j 0)).class)
       (ap not (known_ends t.version (line_class_of t c) (is_mark_in t c)) ∙ ap may_go_on (sym (at_place j below)) ∙ passes)
 
+  pub whole_by : list_all may_go_on tested ≡ true → IsWhole t text
+  whole_by all j below =
+      elim is_end [
+        | inr other ↦ inl (goes_on j all (omega (arith, below, other.1)))
+        | inl pair ↦
+            elim (cases_eq j (length text - 2)) [
+              | inl last ↦ inr (subst (EndsInCrLf t text) (sym last) pair.0)
+              | inr earlier ↦ inl (goes_on j all (omega (arith, below, earlier, pair.1)))
+            ]
+      ]
+
+  passes_at : (j : ℕ) → IsWhole t text → j + end < length text → ends_line (character t (get_or text j 0)).class ≡ false
+  passes_at j whole below =
+      elim (whole j (elim some_end [ inl one ↦ omega (arith, below, one) | inr two ↦ omega (arith, below, two) ])) [
+        | inl quiet ↦ quiet
+        | inr pair ↦
+            elim is_end [
+              | inl two ↦ absurd (omega (arith, below, pair.last, two.1))
+              | inr one ↦ absurd (one.0 (subst (EndsInCrLf t text) (omega (arith, pair.last)) pair))
+            ]
+      ]
+
   pub not_whole : list_all may_go_on tested ≡ false → ¬ (IsWhole t text)
   not_whole fails whole =
       both_ways (list_all may_go_on tested) fails
       (list_all-from_AllPass may_go_on tested (λ j d inside.
-      let below : j + 1 < length text = omega (arith, size_tested, inside) in
+      let below : j + end < length text = omega (arith, size_tested, inside) in
       let c : ℕ = get_or text j 0 in
       ap may_go_on (get_or_default tested j d (properties_of t 0) inside ∙ at_place j below)
-      ∙ ap not (sym (known_ends t.version (line_class_of t c) (is_mark_in t c))) ∙ ap not (whole j below)))
+      ∙ ap not (sym (known_ends t.version (line_class_of t c) (is_mark_in t c))) ∙ ap not (passes_at j whole below)))

@@ -2,18 +2,20 @@
 -- paragraph.
 use Rattle.std.proofs.Common.{◌≡◌, ℕ, zero, suc, ◌+◌, ◌-◌, ◌<◌, ◌≤◌, ◌==◌, ◌++◌, Bool, Option, List, [], ◌∷◌, length, map, take, drop, get_or, Some, refl, sym, ap, ap₂, ◌∙◌, arith}
 use Rattle.std.specs.Prelude.{option_map, slice_get, slice_range, None}
-use Rattle.std.proofs.lemmas.List.{length-map, length-take-le, take-take}
+use Rattle.std.proofs.lemmas.List.{length-map, length-take-le, take-take, take_all}
 use Rattle.std.proofs.Math.Seq.{drop-append_seam, take-append_seam}
 use Rattle.ucd.specs.Tables.{class_of}
 use Rattle.ucd.specs.declared.bidi_class.BidiClass.{BidiClass}
 use Rattle.ucd.specs.declared.tables.Tables.{Tables}
 use Rattle.lines.specs.Asked.{visual_part, visual_shown}
 use Rattle.lines.specs.Bytes.{line_bytes}
-use Rattle.lines.specs.Extents.{shown_between, shown_from}
+use Rattle.std.specs.List.{concat}
+use Rattle.lines.specs.Extents.{shown_between, shown_from, LineExtents}
 use Rattle.bidi.specs.Levels.{levels_of}
 use Rattle.lines.specs.Filling.{line_starts_of}
 use Rattle.lines.specs.Layouts.{Rules, base_of}
 use Rattle.lines.specs.Pages.{lines_bytes, paragraph_bytes}
+use Rattle.lines.specs.Paragraphs.{IsLineAt}
 use Rattle.lines.specs.CharInfos.{infos_of}
 use Rattle.reorder.specs.Mirroring.{visual_chars}
 use Rattle.lines.specs.Reordering.{ends_by, ltov_by, vtol_by}
@@ -25,9 +27,11 @@ use Rattle.lines.specs.Visual.{Line, Visual, end_of, lines_from, visual_of}
 use Rattle.lines.specs.declared.options.Options.{Options}
 use Rattle.lines.specs.declared.char_info.CharInfo.{CharInfo}
 use Rattle.lines.specs.declared.fill.Shown.{Shown}
+use Rattle.lines.specs.declared.paragraph.LineSlice.{LineSlice}
+use Rattle.lines.specs.declared.paragraph.Text.{Text}
 use Rattle.lines.specs.declared.printing.print.Print.{Print}
-use Rattle.lines.proofs.PageLemmas.{piece_at, pieces}
-use Rattle.lines.proofs.ShowLemmas.{length_range}
+use Rattle.lines.proofs.PageLemmas.{length-pieces, piece_at, pieces, pieces_whole}
+use Rattle.lines.proofs.ShowLemmas.{length_range, length-shown_from}
 
 -- Taking n items from a list that starts with n new items yields these items. Taking the next n items yields the n new
 -- items that follow. If all items of a list are 0, so are the first n.
@@ -97,29 +101,55 @@ module _ (tables : Tables) (options : Options) (base : ℕ) where
     shown_lines margin infos (s ∷ t ∷ starts) =
         ap (λ (lines : List Line). line_showing tables options base text old (shown_between margin infos s t) s t ∷ lines) (shown_lines margin infos (t ∷ starts))
 
-    -- the k-th piece is the printed bytes of the k-th line
-    pub piece_is : (width : ℕ) (print : Print) (starts : List ℕ) (parts : List Shown) (k e : ℕ) (part : Shown) → length parts ≡ length starts → k < length starts
-        → e ≡ end_of (length text) starts k → part ≡ get_or parts k nothing_shown → get_or starts k 0 + part.len ≤ e → e ≤ length text → length old ≡ length text
-        → line_bytes width print
-        (visual_shown tables options base (k == 0) (slice_range text (get_or starts k 0) e) (slice_range (ends_by options text) (get_or starts k 0) e)
-        (slice_range old (get_or starts k 0) e) part)
-        ≡ get_or (pieces width print base (tab_width_in tables options) None text (lines_shown tables options base text old starts parts)) k []
-    piece_is width print starts parts k e part same below e_is part_is within most sizes =
-        let lines : List Line = lines_shown tables options base text old starts parts in
-        let s : ℕ = get_or starts k 0 in
-        let line : List ℕ = slice_range text s e in
-        let classes : List BidiClass = map (class_of tables) line in
-        let levels : List ℕ = take part.len (line_levels base classes (slice_range old s e)) in
-        let ends : List Bool = slice_range (ends_by options text) s e in
+-- the printed bytes of each line of a text, given the levels before L1 and the extents of its lines
+module _ (width : ℕ) (print : Print) (text : Text) (old : List ℕ) (extents : LineExtents) where
+  abbrev lines_of : List Line
+  lines_of = lines_shown text.rules.tables.now text.rules.options text.base text.characters.now old extents.starts extents.shown
+
+  abbrev pub pieces_of : List (List ℕ)
+  pieces_of = pieces width print text.base (tab_width_in text.rules.tables.now text.rules.options) None text.characters.now lines_of
+
+  pub pieces_of_whole : concat pieces_of ≡ lines_bytes width print text.base (tab_width_in text.rules.tables.now text.rules.options) None text.characters.now lines_of
+  pieces_of_whole = pieces_whole width print text.base (tab_width_in text.rules.tables.now text.rules.options) None text.characters.now lines_of
+
+  module _ (parts : (margin : Option ℕ) × (infos : List CharInfo) × (extents.shown ≡ shown_from margin (length text.characters.now) infos extents.starts)) where
+    same : length extents.shown ≡ length extents.starts
+    same = ap length parts.2 ∙ length-shown_from parts.0 (length text.characters.now) parts.1 extents.starts
+
+    count : length pieces_of ≡ length extents.starts
+    count =
+        length-pieces width print text.base (tab_width_in text.rules.tables.now text.rules.options) None text.characters.now lines_of
+        ∙ length-lines_shown text.rules.tables.now text.rules.options text.base text.characters.now old extents.starts extents.shown same
+
+    pub pieces_of_all : (k : ℕ) → length extents.starts ≤ k → concat (take k pieces_of) ≡ concat pieces_of
+    pieces_of_all k past = ap concat (take_all k pieces_of (omega (arith, count, past)))
+
+    -- the k-th piece is the printed bytes of line k
+    pub piece_is : (k : ℕ) (line : LineSlice) → k < length extents.starts → IsLineAt text extents k line → length old ≡ length text.characters.now
+        → (k < length pieces_of) × (line_bytes width print
+        (visual_shown line.text.rules.tables.now line.text.rules.options line.text.base (k == 0) line.text.characters.now line.text.ends.now (slice_range old line.start line.end) line.shown)
+        ≡ get_or pieces_of k [])
+    piece_is k line below at sizes =
+        let tables = text.rules.tables.now in
+        let options = text.rules.options in
+        let base = text.base in
+        let all : List ℕ = text.characters.now in
+        let s : ℕ = line.start in
+        let e : ℕ = line.end in
+        let part = line.shown in
+        let chars : List ℕ = slice_range all s e in
+        let size : length chars ≡ e - s = length_range all s e (omega (arith, at.order)) at.within in
+        let classes : List BidiClass = map (class_of tables) chars in
+        let old_size : length (slice_range old s e) ≡ e - s = length_range old s e (omega (arith, at.order)) (omega (arith, at.within, sizes)) in
+        let after = line_levels base classes (slice_range old s e) in
+        let levels : List ℕ = take part.len after in
+        let ends : List Bool = slice_range (ends_by options all) s e in
         let vtol : List ℕ = vtol_by options classes ends levels in
-        let whole : length (slice_range old s e) ≡ length classes =
-        length_range old s e (omega arith) (omega (arith, most, sizes)) ∙ sym (length-map line (class_of tables) ∙ length_range text s e (omega arith) most) in
-        let size : length levels ≡ part.len =
-        length-take-le part.len (line_levels base classes (slice_range old s e))
-        (omega (arith, length-line_levels base classes (slice_range old s e) whole, whole, length_range old s e (omega arith) (omega (arith, most, sizes)))) in
-        let count : s + length levels - s ≡ length levels = omega arith in
-        let text_is : take (length levels) line ≡ slice_range text s (s + length levels) =
-        take-take (length levels) (e - s) (drop s text) (omega arith) ∙ ap (λ (n : ℕ). take n (drop s text)) (sym count) in
+        let whole : length (slice_range old s e) ≡ length classes = old_size ∙ sym (length-map chars (class_of tables) ∙ size) in
+        let levels_size : length levels ≡ part.len = length-take-le part.len after (omega (arith, length-line_levels base classes (slice_range old s e) whole, old_size, at.shown_within)) in
+        let n : s + length levels - s ≡ length levels = omega arith in
+        let text_is : take (length levels) chars ≡ slice_range all s (s + length levels) =
+        take-take (length levels) (e - s) (drop s all) (omega (arith, levels_size, at.shown_within)) ∙ ap (λ (i : ℕ). take i (drop s all)) (sym n) in
         let view : List ℕ → List ℕ → Visual =
         λ t u. record {
           is_first = k == 0;
@@ -134,11 +164,13 @@ module _ (tables : Tables) (options : Options) (base : ℕ) where
           vtol = vtol;
           chars = visual_chars tables levels u vtol;
         } in
-        let got : slice_get lines k ≡ Some (line_showing tables options base text old part s e) =
-        line_at starts parts k same below ∙ ap₂ (λ (p : Shown) (x : ℕ). Some (line_showing tables options base text old p s x)) (sym part_is) (sym e_is) in
-        ap₂ (λ (t u : List ℕ). line_bytes width print (view t u)) text_is (ap (λ (n : ℕ). take n line) size)
-        ∙ piece_at width print base (tab_width_in tables options) None text lines k (visual_of base (tab_width_in tables options) None text lines k (line_showing tables options base text old part s e))
-        (omega (arith, below, length-lines_shown starts parts same)) (sym (ap (option_map (visual_of base (tab_width_in tables options) None text lines k)) got))
+        let shown = line_showing tables options base all old part s e in
+        let got : slice_get lines_of k ≡ Some shown = rw (at.shown, at.start, at.end) (line_at tables options base all old extents.starts extents.shown k same below) in (
+          omega (arith, count, below),
+          rw (at.rules, at.base, at.characters, at.ends) (ap₂ (λ (t u : List ℕ). line_bytes width print (view t u)) text_is (ap (λ (i : ℕ). take i chars) levels_size)
+              ∙ piece_at width print base (tab_width_in tables options) None all lines_of k (visual_of base (tab_width_in tables options) None all lines_of k shown)
+              (omega (arith, below, length-lines_shown tables options base all old extents.starts extents.shown same)) (sym (ap (option_map (visual_of base (tab_width_in tables options) None all lines_of k)) got))),
+        )
 
 -- if the base level, levels and line starts are those of the paragraph, the printed lines are the paragraph's
 -- bytes

@@ -6,6 +6,7 @@ pub mod BufferedExtents
 pub mod Buffers
 pub mod Bytes
 pub mod Cells
+pub mod Changed
 pub mod CharInfos
 pub mod Clusters
 pub mod ColumnCache

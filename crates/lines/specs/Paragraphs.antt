@@ -1,6 +1,6 @@
 -- What is known about a paragraph, or about one of its lines, before the lines are reordered. No contract of
 -- an exported function uses these definitions.
-use Rattle.std.specs.Prelude.{◌≡◌, ℕ, ◌≤◌, List, length, map, take, drop, Option, None, option_map}
+use Rattle.std.specs.Prelude.{◌≡◌, ℕ, ◌+◌, ◌-◌, ◌<◌, ◌≤◌, List, length, map, take, drop, Option, None, option_map, slice_index, slice_index_or, slice_range}
 use Rattle.ucd.specs.Properties.{properties_of}
 use Rattle.ucd.specs.Tables.{class_of}
 use Rattle.reorder.specs.Spaces.{line_levels}
@@ -8,15 +8,18 @@ use Rattle.bidi.specs.Levels.{levels_of}
 use Rattle.breaks.specs.Marks.{marks_of}
 use Rattle.lines.specs.Asked.{visual_part}
 use Rattle.lines.specs.CharInfos.{infos_of}
+use Rattle.lines.specs.Extents.{LineExtents}
 use Rattle.lines.specs.Filling.{line_starts_of}
 use Rattle.lines.specs.Layouts.{HaveRoom, Rules, base_of, unmeasured, with_advances}
 use Rattle.lines.specs.Reordering.{ends_by}
+use Rattle.lines.specs.Showing.{nothing_shown}
 use Rattle.lines.specs.ShownParts.{margin_of}
 use Rattle.lines.specs.Tabs.{tab_width_in}
-use Rattle.lines.specs.Visual.{Line, Visual, lines_from}
+use Rattle.lines.specs.Visual.{Line, Visual, end_of, lines_from}
 use Rattle.lines.specs.declared.buffers.VisualBuffers.{VisualBuffers}
 use Rattle.lines.specs.declared.engine.TheConstants.{PARAGRAPH_LIMIT}
 use Rattle.lines.specs.declared.paragraph.LentRules.{LentRules}
+use Rattle.lines.specs.declared.paragraph.LineSlice.{LineSlice}
 use Rattle.lines.specs.declared.paragraph.LogicalLine.{LogicalLine}
 use Rattle.lines.specs.declared.paragraph.Paragraph.{Paragraph}
 use Rattle.lines.specs.declared.paragraph.Text.{Text}
@@ -32,6 +35,21 @@ IsLookedUp text = text.properties.now ≡ map (properties_of text.rules.tables.n
 -- otherwise
 abbrev pub HasEnds : Text → Type 0
 HasEnds text = text.ends.now ≡ ends_by text.rules.options text.characters.now
+
+-- whether a slice is line k of a text that has these extents
+pub record IsLineAt (text : Text) (extents : LineExtents) (k : ℕ) (line : LineSlice) : Type 0 where
+  pub start : line.start ≡ slice_index extents.starts k
+  pub end : line.end ≡ end_of (length text.characters.now) extents.starts k
+  pub order : line.start < line.end
+  pub within : line.end ≤ length text.characters.now
+  pub rules : line.text.rules ≡ text.rules
+  pub base : line.text.base ≡ text.base
+  pub characters : line.text.characters.now ≡ slice_range text.characters.now line.start line.end
+  pub len : length line.text.characters.now ≡ line.end - line.start
+  pub looked_up : IsLookedUp line.text
+  pub ends : line.text.ends.now ≡ slice_range (ends_by text.rules.options text.characters.now) line.start line.end
+  pub shown : line.shown ≡ slice_index_or extents.shown k nothing_shown
+  pub shown_within : line.start + line.shown.len ≤ line.end
 
 -- whether the properties, cluster ends and base level of a text are those of its characters, and `levels` are
 -- their levels before L1; the text has at most `PARAGRAPH_LIMIT` characters

@@ -62,6 +62,10 @@ pub record MakesText (rules : Rules) (width : ℕ) (change : RunChange) (text : 
   pub laid : IsLaidAt (with_advances rules change.laid.now.advances) width change.laid.now
   pub run : IsRunEdit rules.tables change.laid.now.text text change.run
 
+-- the characters that a run edit replaces
+abbrev pub replacement : RunEdit → Replacement
+replacement run = record { at = run.at; removed = run.old_len; inserted = run.new_len }
+
 -- the levels after such an edit: all characters of the run have the same level
 abbrev pub levels_with : RunEdit → List ℕ → List ℕ
 levels_with run levels = splice levels run.at (run.at + run.old_len) (replicate run.new_len (slice_index levels run.at))

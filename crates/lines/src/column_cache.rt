@@ -1,6 +1,6 @@
 //! A cache of the columns of characters. The columns of a character depend on nothing else, so entries never
 //! become outdated.
-ghost use Rattle.std.specs.Prelude.{◌≡◌, ◌≤◌, ℕ, OnOk};
+ghost use Rattle.std.specs.Prelude.{◌≡◌, ◌<◌, ◌≤◌, ℕ, true, length, slice_index, OnOk};
 ghost use Rattle.lines.specs.CharInfos.{columns_of};
 ghost use Rattle.lines.specs.ColumnCache.{is_right};
 
@@ -14,6 +14,13 @@ const ENTRIES: usize = 1_024;
 
 // The number of characters that are tested together.
 const AT_ONCE: usize = 8;
+
+// Returns `true` only if each character of a group has one column. Looks up no columns.
+fn have_one_column(group: &[char]) -> bool
+    ensures { result ≡ true → (k : ℕ) → k < length group.now → 1 ≡ columns_of (slice_index group.now k) }
+{
+    are_printable(group) || are_common(group)
+}
 
 /// A cache of the widths of characters, in columns. An entry is a code point times 4, plus the columns of the
 /// character. New entries are 0, which is the correct entry for U+0000, since it has no columns.
@@ -40,7 +47,7 @@ impl Model for ColumnCache {
 }
 
 impl ColumnCache {
-    ghost use Rattle.std.specs.Prelude.{◌≡◌, ◌*◌, ◌≤◌, length, map, sum};
+    ghost use Rattle.std.specs.Prelude.{◌≡◌, ◌*◌, ◌-◌, ◌<◌, ◌≤◌, drop, length, map, sum};
     ghost use Rattle.lines.specs.CharInfos.{columns_of};
     ghost use Rattle.lines.specs.declared.engine.TheConstants.{PARAGRAPH_LIMIT};
 
@@ -85,20 +92,31 @@ impl ColumnCache {
             sum += self.sum_of_group(group);
             rest = after;
         }
-        sum + self.sum_of_each(rest)
+        sum + self.sum_of_last(text, rest.len())
     }
 
-    // Implements `sum` for a group of characters. Looks up no columns if a quick test shows that each
-    // character has one.
+    // Implements `sum` for the last `len` characters of a text. If there are enough characters, tests a whole
+    // group, so that few characters are looked up one by one.
+    fn sum_of_last(&mut self, text: &[char], len: usize) -> u32
+        requires limit { length text.now ≤ PARAGRAPH_LIMIT }
+        requires len { len ≤ length text.now }
+        requires few { len < AT_ONCE }
+        ensures sum { result ≡ sum (map columns_of (drop (length text.now - len) text.now)) }
+        ensures most { result ≤ 255 * len }
+    {
+        if text.len() >= AT_ONCE && have_one_column(&text[text.len() - AT_ONCE..]) {
+            return len as u32;
+        }
+        self.sum_of_each(&text[text.len() - len..])
+    }
+
+    // Implements `sum` for a group of characters. Looks up no columns if each character has one.
     fn sum_of_group(&mut self, group: &[char]) -> u32
         requires { length group.now ≡ AT_ONCE }
         ensures sum { result ≡ sum (map columns_of group.now) }
         ensures most { result ≤ 255 * length group.now }
     {
-        if are_printable(group) {
-            return group.len() as u32;
-        }
-        if are_common(group) {
+        if have_one_column(group) {
             return group.len() as u32;
         }
         self.sum_of_each(group)

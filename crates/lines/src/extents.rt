@@ -1,17 +1,20 @@
 //! Where each line of a paragraph starts at a width, and how much of it is shown.
-ghost use Rattle.std.specs.Prelude.{◌≡◌, ◌+◌, ◌^◌, ◌<◌, ◌≤◌, ℕ, [], ◌∷◌, length, sum, IfSome, OnOk};
-ghost use Rattle.std.specs.Prelude.{option_map, ◌++◌, All, drop, slice_index, slice_index_or, slice_range};
+ghost use Rattle.std.specs.Prelude.{◌≡◌, ◌+◌, ◌*◌, ◌^◌, ◌<◌, ◌≤◌, ℕ, [], ◌∷◌, length, sum, IfSome, OnOk};
+ghost use Rattle.std.specs.Prelude.{List, Option, option_map, ◌++◌, All};
+ghost use Rattle.std.specs.Prelude.{drop, slice_index, slice_index_or, slice_range};
 ghost use Rattle.lines.specs.Bare.{with_ends};
 ghost use Rattle.lines.specs.CharInfos.{sized};
 ghost use Rattle.lines.specs.Clusters.{cluster_ends};
 ghost use Rattle.lines.specs.Extents.{in_pairs, shown_from};
 ghost use Rattle.lines.specs.Filling.{line_starts_of};
 ghost use Rattle.lines.specs.Kept.{AreStarts};
+ghost use Rattle.lines.specs.Paragraphs.{HasEnds, IsLineAt, IsLookedUp};
 ghost use Rattle.lines.specs.Showing.{nothing_shown};
 ghost use Rattle.lines.specs.ShownParts.{margin_of};
 ghost use Rattle.lines.specs.Spliced.{spliced_shown, spliced_starts};
 ghost use Rattle.lines.specs.Splicing.{moved_start};
 ghost use Rattle.lines.specs.Visual.{end_of};
+ghost use Rattle.lines.specs.declared.char_info.CharInfo.{CharInfo};
 ghost use Rattle.lines.specs.declared.engine.TheConstants.{PARAGRAPH_LIMIT};
 
 use crate::char_info::CharInfo;
@@ -20,6 +23,7 @@ use crate::counts::Counted;
 use crate::fill::Shown;
 use crate::filling::line_starts;
 use crate::options::Options;
+use crate::paragraph::{LineSlice, Text};
 use crate::reserve::reserve;
 use crate::shown_parts::fill_shown;
 use crate::sizes::{ByAdvances, ByColumns, Ruler, Sizes};
@@ -65,6 +69,13 @@ impl Extents {
         }
     }
 
+    /// Returns how much of the only line is shown, or `None` if there may be several lines.
+    pub(crate) fn only_line(&self) -> Option<Shown>
+        ensures { IfSome result (λ shown. self.now ≡ record { starts = 0 ∷ []; shown = shown ∷ [] }) }
+    {
+        self.line
+    }
+
     /// Returns how much of line `k` is shown.
     pub(crate) fn shown(&self, k: usize) -> Shown
         requires { k < length self.now.starts }
@@ -79,6 +90,33 @@ impl Extents {
                     columns: self.items[place + 1],
                 }
             }
+        }
+    }
+
+    /// Returns line `k` of a paragraph that has these extents. Pass the result of `starts` as `starts`.
+    pub(crate) fn line_at<'a>(&self, starts: &[u32], text: &Text<'a>, k: usize) -> LineSlice<'a>
+        requires listed { starts.now ≡ self.now.starts }
+        requires text { IsLookedUp text.now }
+        requires ends { HasEnds text.now }
+        requires starts { AreStarts (length text.now.characters.now) self.now.starts }
+        requires shown { (margin : Option ℕ) × (infos : List CharInfo) × (self.now.shown
+            ≡ shown_from margin (length text.now.characters.now) infos self.now.starts) }
+        requires k { k < length self.now.starts }
+        ensures { IsLineAt text.now self.now k result }
+    {
+        let start = starts[k] as usize;
+        let end = end_of(starts, k, text.characters.len());
+        LineSlice {
+            start,
+            end,
+            text: Text {
+                rules: text.rules,
+                characters: &text.characters[start..end],
+                properties: &text.properties[start..end],
+                ends: ends_between(text.ends, start, end),
+                base: text.base,
+            },
+            shown: self.shown(k),
         }
     }
 
@@ -266,4 +304,14 @@ pub(crate) fn end_of(starts: &[u32], k: usize, len: usize) -> usize
     } else {
         len
     }
+}
+
+// Returns the items of `ends` for the characters from `start` up to `end`, or an empty list if `ends` is
+// empty.
+fn ends_between(ends: &[bool], start: usize, end: usize) -> &[bool]
+    requires { start ≤ end }
+    ensures { result.now ≡ slice_range ends.now start end }
+{
+    let len = ends.len();
+    &ends[start.min(len)..end.min(len)]
 }

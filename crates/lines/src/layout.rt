@@ -12,6 +12,7 @@ ghost use Rattle.lines.specs.Paragraphs.{rules_by};
 ghost use Rattle.lines.specs.declared.engine.TheConstants.{PARAGRAPH_LIMIT};
 
 use crate::buffers::{LayoutBuffers, LineBuffers};
+use crate::changed::{Change, changed};
 use crate::char_info::{CharInfo, InfoBuffers};
 use crate::clusters::ClusterBuffers;
 use crate::counts::{Count, Counted, Counts};
@@ -21,7 +22,7 @@ use crate::matching::SharedLines;
 use crate::one_line::one_line;
 use crate::paragraph::{LentRules, Paragraph, Text};
 use crate::properties::fill_properties;
-use crate::same_kind::{RunChange, put_levels, put_marks};
+use crate::same_kind::{Replacement, RunChange, put_levels, put_marks};
 use crate::showing::show_lines;
 use crate::sizes::Ruler;
 use crate::windows::Edited;
@@ -129,7 +130,13 @@ impl Workspace {
         fill_ends(&mut self.clusters, rules.options, text, &mut kept.ends)?;
         let edited = Edited {
             rules: *rules,
-            change,
+            laid,
+            edit: Replacement {
+                at: run.at,
+                removed: run.old_len,
+                inserted: run.new_len,
+            },
+            base: laid.base(),
             text,
             levels: &kept.levels,
             marks: &kept.marks,
@@ -138,6 +145,93 @@ impl Workspace {
         let lines = &mut kept.lines;
         let shared = self.fill_edited(&edited, ruler.sizes, &kept.ends, lines, counts)?;
         Ok((laid.base(), shared))
+    }
+}
+
+impl Workspace {
+    ghost use Rattle.std.specs.Prelude.{◌≡◌, ◌≤◌};
+    ghost use Rattle.bidi.specs.Levels.{levels_of};
+    ghost use Rattle.breaks.specs.Marks.{marks_of};
+    ghost use Rattle.lines.specs.Counts.{LaysOutSome};
+    ghost use Rattle.lines.specs.HeldLayouts.{HoldsLayout};
+    ghost use Rattle.lines.specs.Layouts.{base_of, layout_of, visuals, with_advances, IsLaidAt};
+    ghost use Rattle.lines.specs.Matching.{ShareEnds};
+    ghost use Rattle.lines.specs.Paragraphs.{rules_in};
+    ghost use Rattle.lines.specs.Reordering.{ends_by};
+    ghost use Rattle.lines.specs.SameKind.{IsEdited};
+
+    /// Lays out a long paragraph that an edit has made of a laid-out one. Fills only a window of it if the
+    /// levels and break marks outside the window are the old ones. Returns the base level and which lines are
+    /// known to be the old ones, and replaces the contents of `kept` with the rest of the layout.
+    pub(crate) fn lay_out_changed(
+        &mut self,
+        rules: &LentRules<'_>,
+        change: Change<'_>,
+        text: &[char],
+        width: u32,
+        kept: &mut LayoutBuffers,
+        counts: &mut Counts,
+    ) -> Result<(u8, SharedLines), AllocError>
+        requires laid { IsLaidAt (with_advances (rules_in rules.now) change.laid.now.advances) width
+            change.laid.now }
+        requires edit { IsEdited change.laid.now.text text.now change.edit }
+        requires limit { length text.now ≤ PARAGRAPH_LIMIT }
+        ensures layout { IfOk result (λ done.
+            HoldsLayout (rules_in rules.now) width text.now done.0 kept.new) }
+        ensures shared { IfOk result (λ done. ShareEnds (visuals change.entry.laid.now)
+            (visuals (layout_of (rules_in rules.now) width text.now)) done.1.front done.1.back) }
+        ensures at_most { LaysOutSome (length text.now) counts.old counts.new }
+    {
+        let base = self.analyse(rules, text, kept, &mut counts.analysed)?;
+        let Change { laid, edit } = change;
+        marks_are_as_many(rules.tables, laid.text(), rules.options.whole_numbers);
+        let edited = Edited {
+            rules: *rules,
+            laid,
+            edit: changed(laid, edit, text, &kept.levels, &kept.marks),
+            base,
+            text,
+            levels: &kept.levels,
+            marks: &kept.marks,
+            width,
+        };
+        let lines = &mut kept.lines;
+        let shared = self.fill_edited(&edited, None, &kept.ends, lines, counts)?;
+        Ok((base, shared))
+    }
+
+    // Finds the levels, the cluster ends and the break marks of a paragraph. Returns its base level.
+    fn analyse(
+        &mut self,
+        rules: &LentRules<'_>,
+        text: &[char],
+        kept: &mut LayoutBuffers,
+        analysed: &mut Count,
+    ) -> Result<u8, AllocError>
+        ensures base { IfOk result (λ base. base ≡ base_of (rules_in rules.now) text.now) }
+        ensures levels { OnOk result
+            (kept.new.levels.items ≡ levels_of rules.now.tables.now text.now rules.now.options.base) }
+        ensures len { OnOk result (length kept.new.levels.items ≡ length text.now) }
+        ensures ends { OnOk result (kept.new.ends.items ≡ ends_by rules.now.options text.now) }
+        ensures marks { OnOk result (kept.new.marks.items
+            ≡ marks_of rules.now.tables.now rules.now.options.whole_numbers text.now) }
+        ensures marks_len { OnOk result (length kept.new.marks.items ≡ length text.now) }
+        ensures counts { analysed.new ≡ counted analysed.old (length text.now) }
+        ensures least { analysed.old ≤ analysed.new }
+    {
+        let analysis = &mut self.analysis;
+        let base = analysis.resolve(rules, text, &mut kept.levels, analysed)?;
+        fill_ends(&mut self.clusters, rules.options, text, &mut kept.ends)?;
+        let text = Text {
+            rules: *rules,
+            characters: text,
+            properties: &analysis.properties[..text.len()],
+            ends: &kept.ends,
+            base,
+        };
+        marks_are_as_many(rules.tables, text.characters, rules.options.whole_numbers);
+        fill_marks(&text, &mut kept.marks)?;
+        Ok(base)
     }
 }
 

@@ -28,6 +28,7 @@
 #![tactic(auto)]
 
 mod buffers;
+mod changed;
 mod char_info;
 mod clusters;
 mod column_cache;

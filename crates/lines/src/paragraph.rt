@@ -50,6 +50,16 @@ pub(crate) struct Paragraph<'a> {
     pub(crate) marks: &'a [Mark],
 }
 
+/// The characters of a line, which are those of its paragraph from `start` up to `end`, and how much of the
+/// line is shown.
+#[derive(Clone, Copy)]
+pub(crate) struct LineSlice<'a> {
+    pub(crate) start: usize,
+    pub(crate) end: usize,
+    pub(crate) text: Text<'a>,
+    pub(crate) shown: Shown,
+}
+
 /// A line in logical order, with the level of each character before L1, and how much of the line is shown.
 #[derive(Clone, Copy)]
 pub(crate) struct LogicalLine<'a> {

@@ -2,7 +2,7 @@
 //! L3), mirrored (L4).
 ghost use Rattle.std.specs.Prelude.{◌≡◌, ◌*◌, ◌≤◌, ℕ, List, Option, true, false, OnErr, OnOk};
 ghost use Rattle.std.specs.Prelude.{drop, length, map, take, slice_index};
-ghost use Rattle.std.specs.List.{list_any, range_with_len, slice_range};
+ghost use Rattle.std.specs.List.{list_any, range_with_len};
 ghost use Rattle.ucd.specs.Properties.{properties_of};
 ghost use Rattle.ucd.specs.Classes.{class_in};
 ghost use Rattle.reorder.specs.Spaces.{line_levels};
@@ -22,7 +22,7 @@ ghost use Rattle.lines.specs.declared.engine.TheConstants.{PARAGRAPH_LIMIT};
 
 use crate::buffers::LineBuffers;
 use crate::counts::Count;
-use crate::extents::{Extents, end_of};
+use crate::extents::Extents;
 use crate::fill::Shown;
 use crate::line_classes::LineClasses;
 use crate::options::Options;
@@ -131,6 +131,11 @@ pub(crate) fn show_all(
     ensures least { written.old ≤ written.new }
 {
     let (ltov, vtol) = maps.split_at_mut(levels.len());
+    if let Some(shown) = extents.only_line() {
+        written.raise(text.characters.len());
+        show_line(text, shown, levels, ltov, vtol, chars);
+        return;
+    }
     show_each(text, extents, levels, ltov, vtol, chars, written);
 }
 
@@ -160,25 +165,15 @@ fn show_each(
     ensures counts { written.new ≡ counted written.old (length text.now.characters.now) }
     ensures least { written.old ≤ written.new }
 {
-    let characters = text.characters;
-    let properties = text.properties;
-    let ends = text.ends;
     let starts = extents.starts();
-    written.raise(characters.len());
+    written.raise(text.characters.len());
     let mut k = 0;
     while k < starts.len() {
-        let start = starts[k] as usize;
-        let end = end_of(starts, k, characters.len());
-        let line = Text {
-            rules: text.rules,
-            characters: &characters[start..end],
-            properties: &properties[start..end],
-            ends: ends_between(ends, start, end),
-            base: text.base,
-        };
+        let line = extents.line_at(starts, text, k);
+        let (start, end) = (line.start, line.end);
         show_line(
-            &line,
-            extents.shown(k),
+            &line.text,
+            line.shown,
             &mut levels[start..end],
             &mut ltov[start..end],
             &mut vtol[start..end],
@@ -334,16 +329,6 @@ fn reorders(options: Options) -> bool
     ensures { result ≡ reorders options }
 {
     options.reorder_clusters || options.reordernsm
-}
-
-/// Returns the items of `ends` for the characters from `start` up to `end`, or an empty list if `ends` is
-/// empty.
-pub(crate) fn ends_between(ends: &[bool], start: usize, end: usize) -> &[bool]
-    requires { start ≤ end }
-    ensures { result.now ≡ slice_range ends.now start end }
-{
-    let len = ends.len();
-    &ends[start.min(len)..end.min(len)]
 }
 
 /// Writes only the characters of a line's shown part, in visual order. `levels` are the levels of the shown

@@ -9,7 +9,7 @@ ghost use Rattle.lines.specs.Engine.{counted};
 ghost use Rattle.lines.specs.Pages.{lines_bytes};
 ghost use Rattle.lines.specs.Paragraphs.{HasEnds, IsLookedUp, lines_at};
 ghost use Rattle.lines.specs.Tabs.{tab_width_in};
-ghost use Rattle.lines.specs.Whole.{ends_line, may_go_on, IsShownLen, IsWhole};
+ghost use Rattle.lines.specs.Whole.{ends_line, is_cr, is_lf, may_go_on, IsEndLen, IsShownLen, IsWhole};
 ghost use Rattle.lines.specs.Writing.{PassedOn, StoppedIn};
 ghost use Rattle.lines.specs.declared.engine.TheConstants.{PARAGRAPH_LIMIT};
 
@@ -24,14 +24,44 @@ use breaks::marks_are_as_many;
 use device::Sink;
 use ucd::{LineClass, Properties};
 
-/// Returns whether no character of the paragraph except the last is of a class after which a line must end.
+/// Returns whether no character of the paragraph is of a class after which a line must end, except the last
+/// and the CR of a final CR LF.
 pub(crate) fn is_whole(text: &Text<'_>) -> bool
     requires { IsLookedUp text.now }
     ensures yes { result ≡ true → IsWhole text.now.rules.tables.now text.now.characters.now }
     ensures no { result ≡ false → ¬ (IsWhole text.now.rules.tables.now text.now.characters.now) }
 {
     let properties = text.properties;
-    end_no_line(&properties[..properties.len().saturating_sub(1)])
+    end_no_line(&properties[..properties.len().saturating_sub(end_len(text))])
+}
+
+// Returns 2 if the paragraph ends in CR LF, and otherwise 1.
+fn end_len(text: &Text<'_>) -> usize
+    requires { IsLookedUp text.now }
+    ensures { IsEndLen text.now.rules.tables.now text.now.characters.now result }
+{
+    let properties = text.properties;
+    let len = properties.len();
+    if len < 2 {
+        return 1;
+    }
+    if is_cr(properties[len - 2].line_class()) & is_lf(properties[len - 1].line_class()) {
+        2
+    } else {
+        1
+    }
+}
+
+fn is_cr(class: LineClass) -> bool
+    ensures { (is_mark : Bool) → result ≡ is_cr (resolved class is_mark) }
+{
+    class as u8 == LineClass::CR as u8
+}
+
+fn is_lf(class: LineClass) -> bool
+    ensures { (is_mark : Bool) → result ≡ is_lf (resolved class is_mark) }
+{
+    class as u8 == LineClass::LF as u8
 }
 
 // Returns whether none of the characters is of a class after which a line must end. CR counts as such a class

@@ -1,4 +1,4 @@
-//! Fills only a window of a paragraph again after a run edit. The lines before and after the window stay the
+//! Fills only a window of a paragraph again after an edit. The lines before and after the window stay the
 //! same.
 ghost use Rattle.std.specs.Prelude.{◌≡◌, ◌+◌, ◌-◌, ◌<◌, ◌≤◌, true, length, map, slice_index, None};
 ghost use Rattle.std.specs.Prelude.{option_map, slice_range, take, IfOk, IfSome, OnOk};
@@ -8,7 +8,7 @@ ghost use Rattle.lines.specs.Counts.{FillsSome, IsSameCount};
 ghost use Rattle.lines.specs.Layouts.{lines_of, with_advances, AreWithin, HaveRoom};
 ghost use Rattle.lines.specs.Paragraphs.{rules_in};
 ghost use Rattle.lines.specs.Reordering.{ends_by};
-ghost use Rattle.lines.specs.Windows.{window_lines, IsBreakIn, IsEditedRun, IsFilled, IsFirstLine, IsWindow};
+ghost use Rattle.lines.specs.Windows.{window_lines, IsBreakIn, IsEditedText, IsFilled, IsFirstLine, IsWindow};
 ghost use Rattle.lines.specs.Windows.{IsRefillable, IsShared, Meets, MeetsLine};
 
 use crate::buffers::LineBuffers;
@@ -16,11 +16,12 @@ use crate::char_info::{CharInfo, InfoBuffers};
 use crate::clusters::is_split_point;
 use crate::counts::Counts;
 use crate::filling::line_starts_by_breaks;
+use crate::laid::Laid;
 use crate::layout::fill_lines;
 use crate::matching::SharedLines;
 use crate::paragraph::{LentRules, Paragraph, Text};
 use crate::properties::fill_properties;
-use crate::same_kind::RunChange;
+use crate::same_kind::Replacement;
 use crate::showing::show_lines;
 use crate::splicing::Gap;
 use crate::workspace::Workspace;
@@ -28,14 +29,18 @@ use breaks::Mark;
 use std::alloc::{AllocError, Global};
 use ucd::Properties;
 
-// A window ends at most this many times the width after the run. Most edits move fewer lines.
+// A window ends at most this many times the width after the edited characters, and after long inserts a
+// quarter of their length more. Most edits move fewer lines.
 const LINES: usize = 16;
 
-/// A paragraph after a run edit, with its levels and break marks, and its layout before the edit.
+/// A paragraph after an edit, with its levels and break marks, and its layout before the edit. Outside the
+/// edited characters, the levels and break marks are those of the old paragraph.
 #[derive(Clone, Copy)]
 pub(crate) struct Edited<'a> {
     pub(crate) rules: LentRules<'a>,
-    pub(crate) change: RunChange<'a>,
+    pub(crate) laid: &'a Laid,
+    pub(crate) edit: Replacement,
+    pub(crate) base: u8,
     pub(crate) text: &'a [char],
     pub(crate) levels: &'a [u8],
     pub(crate) marks: &'a [Mark],
@@ -141,21 +146,31 @@ fn first_line(starts: &[u32], marks: &[Mark], len: usize) -> usize
     }
 }
 
-// Returns the window to fill again, or `None` if no line may end close to the run, or if the paragraph is so
-// short that all its lines can be filled again.
+// Returns how many characters after the edited ones a window ends at most.
+fn reach(width: u32) -> usize {
+    (width as usize).saturating_mul(LINES)
+}
+
+/// Returns whether a paragraph is so long that only a window of it should be filled again.
+pub(crate) fn is_long(text: &[char], width: u32) -> bool {
+    reach(width) <= text.len() / 2
+}
+
+// Returns the window to fill again, or `None` if no line may end close to the edited characters, or if the
+// paragraph is so short that all its lines can be filled again.
 fn window_of(edited: &Edited<'_>) -> Option<Window>
     requires { IsRefillable edited.now }
     ensures { IfSome result (IsWindow edited.now) }
 {
-    let (laid, run) = (edited.change.laid, edited.change.run);
+    let (laid, edit) = (edited.laid, edited.edit);
     let starts = laid.line_starts();
-    let run_end = run.at + run.new_len;
-    let reach = (edited.width as usize).saturating_mul(LINES);
+    let edit_end = edit.at + edit.inserted;
+    let reach = reach(edited.width).saturating_add(edit.inserted / 4);
     if reach > edited.text.len() / 2 {
         return None;
     }
-    let last = last_break(edited.marks, run_end - 1, run_end + reach)?;
-    let line = first_line(starts, laid.marks(), run.at.saturating_sub(1));
+    let last = last_break(edited.marks, edit_end - 1, edit_end + reach)?;
+    let line = first_line(starts, laid.marks(), edit.at.saturating_sub(1));
     Some(Window {
         line,
         start: starts[line] as usize,
@@ -171,16 +186,16 @@ fn meeting_at(edited: &Edited<'_>, from: usize, starts: &[u32], n: usize) -> Opt
     requires n { n < length starts.now }
     ensures { IfSome result (MeetsLine edited.now from starts.now) }
 {
-    let (laid, run) = (edited.change.laid, edited.change.run);
+    let (laid, edit) = (edited.laid, edited.edit);
     let len = starts[n] as usize;
     let start = from + len;
-    if start >= edited.text.len() || start <= run.at + run.new_len {
+    if start >= edited.text.len() || start <= edit.at + edit.inserted {
         return None;
     }
     if !is_split_point(edited.text, start) {
         return None;
     }
-    let old_start = start - run.new_len + run.old_len;
+    let old_start = start - edit.inserted + edit.removed;
     let old = laid.line_starts();
     let old_line = line_of(old, old_start);
     if old[old_line] as usize != old_start {
@@ -211,15 +226,32 @@ fn meeting_of(edited: &Edited<'_>, from: usize, len: usize, starts: &[u32]) -> O
     Some(Meeting {
         lines: starts.len(),
         len,
-        old_line: edited.change.laid.line_count(),
-        old_start: edited.change.laid.text().len(),
+        old_line: edited.laid.line_count(),
+        old_start: edited.laid.text().len(),
     })
 }
 
+// Returns whether `refill` can be tried: the old paragraph is not measured and has the same base level, lines
+// are not ordered by clusters, and the edit removes and inserts at least one character.
+fn can_be_refilled(edited: &Edited<'_>) -> bool
+    requires { IsEditedText edited.now }
+    ensures { result ≡ true → IsRefillable edited.now }
+{
+    let Replacement {
+        at: _,
+        removed,
+        inserted,
+    } = edited.edit;
+    if edited.laid.advances().is_some() || edited.rules.options.reorder_clusters {
+        return false;
+    }
+    edited.laid.base() == edited.base && removed > 0 && inserted > 0
+}
+
 impl Workspace {
-    /// Replaces the contents of `lines` with the lines of a paragraph after a run edit. In a long paragraph,
-    /// fills only a window around the run, and copies the other lines. `ends` are the cluster ends if lines
-    /// are ordered by clusters. Returns which lines were copied.
+    /// Replaces the contents of `lines` with the lines of a paragraph after an edit. In a long paragraph,
+    /// fills only a window around the edited characters, and copies the other lines. `ends` are the cluster
+    /// ends if lines are ordered by clusters. Returns which lines were copied.
     pub(crate) fn fill_edited(
         &mut self,
         edited: &Edited<'_>,
@@ -228,7 +260,7 @@ impl Workspace {
         lines: &mut LineBuffers,
         counts: &mut Counts,
     ) -> Result<SharedLines, AllocError>
-        requires edited { IsEditedRun edited.now }
+        requires edited { IsEditedText edited.now }
         requires room { HaveRoom (option_map (λ list. list.now) advances) }
         requires ends { ends.now ≡ ends_by edited.now.rules.options edited.now.text.now }
         ensures lines { OnOk result (held_lines lines.new
@@ -242,8 +274,8 @@ impl Workspace {
             (length lines.new.visual.levels.items ≡ length edited.now.text.now) }
         ensures at_most { FillsSome (length edited.now.text.now) counts.old counts.new }
     {
-        let (laid, rules) = (edited.change.laid, edited.rules);
-        if advances.is_none() && laid.advances().is_none() && !rules.options.reorder_clusters {
+        let (laid, rules) = (edited.laid, edited.rules);
+        if advances.is_none() && can_be_refilled(edited) {
             if let Some(shared) = self.refill(edited, lines, counts)? {
                 return Ok(shared);
             }
@@ -257,7 +289,7 @@ impl Workspace {
                 characters: edited.text,
                 properties: &analysis.properties[..edited.text.len()],
                 ends,
-                base: laid.base(),
+                base: edited.base,
             },
             advances,
             levels: edited.levels,
@@ -277,10 +309,10 @@ impl Workspace {
         Ok(SharedLines::NONE)
     }
 
-    /// Replaces the contents of `lines` with the lines of a paragraph after a run edit. Fills only a window
-    /// around the run, and copies the other lines. Returns which lines were copied, or `None` if the lines of
-    /// the window depend on clusters or do not meet the old lines. The contents of `lines` are then
-    /// unspecified.
+    /// Replaces the contents of `lines` with the lines of a paragraph after an edit. Fills only a window
+    /// around the edited characters, and copies the other lines. Returns which lines were copied, or `None`
+    /// if the lines of the window depend on clusters or do not meet the old lines. The contents of `lines`
+    /// are then unspecified.
     pub(crate) fn refill(
         &mut self,
         edited: &Edited<'_>,
@@ -316,10 +348,10 @@ impl Workspace {
             end_line: meeting.old_line,
             end: meeting.old_start,
         };
-        lines.put_spliced(edited.change.laid.lines(), gap, &buffers.lines)?;
+        lines.put_spliced(edited.laid.lines(), gap, &buffers.lines)?;
         Ok(Some(SharedLines {
             front: window.line,
-            back: edited.change.laid.line_count() - meeting.old_line,
+            back: edited.laid.line_count() - meeting.old_line,
         }))
     }
 }
@@ -349,7 +381,7 @@ fn fill_window(
         characters: &edited.text[from..end],
         properties: &properties[..len],
         ends: &[],
-        base: edited.change.laid.base(),
+        base: edited.laid.base(),
     };
     infos.fill_with(&text, &edited.marks[from..end])?;
     let nobreak = edited.rules.options.nobreak;
@@ -401,7 +433,7 @@ fn show_window(
             characters: &edited.text[from..end],
             properties: &properties[..len],
             ends: &[],
-            base: edited.change.laid.base(),
+            base: edited.laid.base(),
         },
         advances: None,
         levels: &edited.levels[from..end],

@@ -4,15 +4,19 @@
 //!   installed command reads such an image, and the C library contains one for each version.
 //! - `table_tools properties FOLDER [VERSION]` prints the properties of characters. `tests/fribidi/run`
 //!   compares the tables of FriBidi's interface with this output.
+//! - `table_tools joining FOLDER` prints the joining types and presentation forms in ArabicShaping.txt and
+//!   UnicodeData.txt. `tests/ucd/joining` compares them with its own reading.
 //!
 //! VERSION is the Unicode version of the files, `15.0` (the default) or `17.0`.
 #![tactic(auto)]
 
 mod image;
+mod joining;
 mod properties;
 
 use anyhow::{Result, bail};
 use image::write_image;
+use joining::print_joining;
 use properties::print_properties;
 use std::env;
 use ucd::Version;
@@ -38,12 +42,15 @@ fn run(rt: &HostRuntime, words: &[String]) -> Result<()> {
         }
     }
     if let [_, tool, folder] = words {
+        if tool.as_str() == "joining" {
+            return print_joining(rt, folder.as_str());
+        }
         if tool.as_str() == "properties" {
             return print_properties(rt, Version::V15_0, folder.as_str());
         }
     }
     bail!(
-        "usage: table_tools image FOLDER FILE [VERSION], or table_tools properties FOLDER [VERSION]"
+        "usage: table_tools image FOLDER FILE [VERSION], table_tools properties FOLDER [VERSION], or table_tools joining FOLDER"
     )
 }
 

@@ -7,8 +7,8 @@ use std::alloc::{AllocError, Global};
 use std::process::Abort;
 use std::test::Fail;
 
-// Texts, the level of each character (`x` if X9 removes it), and its form by the joins: isolated (s), initial (i),
-// medial (m) or final (f). Transparent characters have a dot.
+// Texts, the level of each character (`x` if X9 removes it), and its form by the joins: isolated (s), initial
+// (i), medial (m) or final (f). Transparent characters have a dot.
 static ROWS: [(&str, &str, &str); 24] = [
     ("", "", ""),
     ("سلام", "1111", "imfs"),
@@ -36,8 +36,8 @@ static ROWS: [(&str, &str, &str); 24] = [
     ("\u{A872}\u{A86A}", "11", "if"),
 ];
 
-// A joiner between two levels, and a mark after it: with the second condition, the mark's level counts only if the
-// joiner has one.
+// A joiner between two levels, and a mark after it: with the second condition, the mark's level counts only
+// if the joiner has one.
 static BETWEEN: [(&str, &str, &str); 2] = [
     ("ب\u{200D}\u{64E}ب", "1x12", "if.s"),
     ("ب\u{200D}ب", "1x2", "imf"),
@@ -54,8 +54,8 @@ static LETTERS: &str =
 ل\u{FEDD}\u{FEDE}\u{FEDF}\u{FEE0}م\u{FEE1}\u{FEE2}\u{FEE3}\u{FEE4}ه\u{FEE9}\u{FEEA}\u{FEEB}\u{FEEC}\
 آ\u{FE81}\u{FE82}--أ\u{FE83}\u{FE84}--إ\u{FE87}\u{FE88}--ء\u{FE80}---\u{6BA}\u{FB9E}\u{FB9F}--";
 
-// Texts, the level of each character (`x` if X9 removes it), and the characters that a line shows. A lam that is
-// shown in a ligature becomes U+FEFF.
+// Texts, the level of each character (`x` if X9 removes it), and the characters that a line shows. A lam that
+// is shown in a ligature becomes U+FEFF.
 static SHOWN_ROWS: [(&str, &str, &str); 28] = [
     ("", "", ""),
     ("سلام", "1111", "\u{FEB3}\u{FEFF}\u{FEFC}\u{FEE1}"),

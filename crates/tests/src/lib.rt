@@ -4,6 +4,8 @@
 #[cfg(test)]
 mod files;
 #[cfg(test)]
+mod joining_tables;
+#[cfg(test)]
 mod joins;
 #[cfg(test)]
 mod level_reasons;

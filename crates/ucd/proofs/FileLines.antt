@@ -34,7 +34,7 @@ first_left text front None is = is
 first_left text front (Some rest) is = is
 
 -- if `drop k xs` is `y ∷ ys`, then `y` is at index k, and `drop (k + 1) xs` is `ys`
-at_drop : {X : Type 0} (xs : List X) (k : ℕ) (d y : X) (ys : List X) → drop k xs ≡ y ∷ ys → (k < length xs) × (get_or xs k d ≡ y) × (drop (k + 1) xs ≡ ys)
+pub at_drop : {X : Type 0} (xs : List X) (k : ℕ) (d y : X) (ys : List X) → drop k xs ≡ y ∷ ys → (k < length xs) × (get_or xs k d ≡ y) × (drop (k + 1) xs ≡ ys)
 at_drop [] zero d y ys is = cc
 at_drop [] (suc k) d y ys is = cc
 at_drop (x ∷ xs) zero d y ys is = (omega arith, cc, cc)

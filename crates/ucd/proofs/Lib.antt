@@ -4,6 +4,10 @@ pub mod Parts
 pub mod PlainLines
 pub mod Ranges
 pub mod FileLines
+pub mod FieldLemmas
+pub mod JoiningBounds
+pub mod JoiningReadings
+pub mod JoiningPageLemmas
 pub mod HexLemmas
 pub mod Setting
 pub mod ImageFaults
@@ -19,3 +23,4 @@ pub mod NameLemmas
 pub mod FileClasses
 pub mod VersionLemmas
 pub mod LineLemmas
+pub mod ContentLemmas

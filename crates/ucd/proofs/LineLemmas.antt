@@ -1,5 +1,5 @@
 -- Tables in which only LF and CR end paragraphs.
-use Rattle.std.proofs.Common.{◌≡◌, ◌≢◌, ℕ, zero, suc, ◌<◌, ◌&&◌, ◌++◌, Bool, true, false, if◌then◌else◌, Option, Some, unwrap_or, refl, sym, ◌∙◌, ap, arith}
+use Rattle.std.proofs.Common.{◌≡◌, ◌≢◌, ℕ, zero, suc, ◌<◌, ◌&&◌, Bool, true, false, if◌then◌else◌, Option, Some, unwrap_or, refl, sym, ◌∙◌, ap, arith}
 use Rattle.std.proofs.lemmas.Bool.Decides.{nat_tests}
 use Rattle.ucd.specs.Answers.{PropertyAnswers}
 use Rattle.ucd.specs.Classes.{is_separator}
@@ -9,7 +9,7 @@ use Rattle.ucd.specs.DistinctPages.{IsEntryOf}
 use Rattle.ucd.specs.Entries.{value_at}
 use Rattle.ucd.specs.LineSeparators.{is_rare_separator, class_for_lines, with_line_separators, contents_if, answers_for_lines, answers_if}
 use Rattle.ucd.specs.LineTables.{SeparatesLines}
-use Rattle.ucd.specs.Pages.{single, singles}
+use Rattle.ucd.specs.Pages.{singles}
 use Rattle.ucd.specs.Properties.{properties_of}
 use Rattle.ucd.specs.Separators.{may_separate}
 use Rattle.ucd.specs.Tables.{class_of, bracket_of, mirror_of, line_class_of, line_detail_of, is_wide_in, is_mark_in, is_future_pictograph_in}

@@ -12,11 +12,17 @@ pub mod Emoji
 pub mod Entries
 pub mod FileNames
 pub mod Files
+pub mod Forms
 pub mod Grammar
 pub mod Imaged
 pub mod ImagePages
 pub mod ImageParts
 pub mod Images
+pub mod JoiningContents
+pub mod JoiningFiles
+pub mod JoiningLines
+pub mod JoiningPages
+pub mod JoiningTables
 pub mod Least
 pub mod Layers
 pub mod LineClasses

@@ -1,5 +1,5 @@
 -- The contents that paged tables model: the pages, and the maps of brackets and mirrors.
-use Rattle.std.specs.Prelude.{◌≡◌, ℕ, ◌<◌, List, Some, is_some}
+use Rattle.std.specs.Prelude.{◌≡◌, ℕ, ◌<◌, List, Some, None, is_some}
 use Rattle.std.specs.BTreeMap.{BTreeMap, get}
 use Rattle.std.specs.Ordering.{nat_cmp}
 use Rattle.ucd.specs.Answers.{PropertyAnswers}
@@ -22,6 +22,7 @@ module _ (version : Version) (index : List ℕ) (entries : List PropertyAnswers)
     widths = singles (λ c. Some (width_in (answers_at index entries c))) 1114112;
     pictographs = singles (λ c. pictograph_in (answers_at index entries c)) 1114112;
     line_details = singles (λ c. Some (answers_at index entries c).line_detail) 1114112;
+    joining = None;
   }
 
   -- the flags in the pages agree with the maps of brackets and mirrors, and an image can contain the entries

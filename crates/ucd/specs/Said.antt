@@ -1,5 +1,5 @@
 -- The properties that the entries of the files assign to each code point.
-use Rattle.std.specs.Prelude.{◌≡◌, ℕ, Some, unwrap_or}
+use Rattle.std.specs.Prelude.{◌≡◌, ℕ, Some, None, unwrap_or}
 use Rattle.std.specs.Char.{IsScalar}
 use Rattle.ucd.specs.Answers.{PropertyAnswers, unnamed}
 use Rattle.ucd.specs.Contents.{TableContents}
@@ -35,6 +35,7 @@ contents_of version e = record {
   widths = e.breaks.widths;
   pictographs = e.breaks.pictographs;
   line_details = singles (λ c. Some (detail_by version (category_by e c) (line_class_by e c) c)) 1114112;
+  joining = None;
 }
 
 abbrev pub layers_of : Version → Entries → Layers

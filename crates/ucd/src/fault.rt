@@ -17,6 +17,9 @@ pub const FILE_NAMES: [&str; 7] = [
     "emoji-data.txt",
 ];
 
+/// The names of the files for cursive joining, in the order in which they are read.
+pub const JOINING_FILE_NAMES: [&str; 2] = ["ArabicShaping.txt", "UnicodeData.txt"];
+
 /// Returns the name of the file with this index in `FILE_NAMES`.
 pub fn file_name(index: usize) -> &'static str
     requires { index < 7 }
@@ -50,7 +53,8 @@ pub enum Cause {
 #[derive(Clone, Copy, Debug, PartialEq, Eq, Error)]
 #[error("{}", Message(.file, .line, .cause))]
 pub struct TableFault {
-    /// The file's number in `FILE_NAMES`, starting at 1, or 0 if memory ran out.
+    /// The file's number in `FILE_NAMES`, starting at 1, or 0 if memory ran out. The files in
+    /// `JOINING_FILE_NAMES` have the numbers 8 and 9.
     pub file: usize,
     /// The line's number, starting at 1, or 0 if memory ran out.
     pub line: usize,
@@ -96,10 +100,11 @@ impl fmt::Display for Message<'_> {
         if **cause == Cause::Memory {
             return f.write_str("out of memory");
         }
-        let name = FILE_NAMES
-            .get(file.saturating_sub(1))
-            .copied()
-            .unwrap_or("");
+        let index = file.saturating_sub(1);
+        let other = JOINING_FILE_NAMES
+            .get(index.saturating_sub(FILE_NAMES.len()))
+            .copied();
+        let name = FILE_NAMES.get(index).copied().or(other).unwrap_or("");
         write!(f, "{name}:{line}: cause {}", **cause as u8)
     }
 }

@@ -75,8 +75,8 @@ pub(crate) fn cut(bytes: &[u8], delimiter: u8) -> (&[u8], Option<&[u8]>)
     }
 }
 
-// Does the same as `cut`, but byte by byte, which is faster if the delimiter is among the first bytes.
-fn cut_near(bytes: &[u8], delimiter: u8) -> (&[u8], Option<&[u8]>)
+/// Does the same as `cut`, but byte by byte, which is faster if the delimiter is among the first bytes.
+pub(crate) fn cut_near(bytes: &[u8], delimiter: u8) -> (&[u8], Option<&[u8]>)
     ensures front { result.0.now ≡ before_first (is_delimiter delimiter) bytes.now }
     ensures rest { option_map (λ rest. rest.now) result.1 ≡ rest_after delimiter bytes.now }
     ensures parts { slice_split (is_delimiter delimiter) bytes.now
@@ -91,8 +91,8 @@ fn cut_near(bytes: &[u8], delimiter: u8) -> (&[u8], Option<&[u8]>)
     (bytes, None)
 }
 
-// Removes the bytes in `white` from both ends.
-fn trimmed<'a>(bytes: &'a [u8], white: &[u8]) -> &'a [u8]
+/// Removes the bytes in `white` from both ends.
+pub(crate) fn trimmed<'a>(bytes: &'a [u8], white: &[u8]) -> &'a [u8]
     ensures { result.now ≡ trimmed (is_one_of white.now) bytes.now }
 {
     let mut start = 0;
@@ -202,9 +202,9 @@ fn read_fields<V: Property>(version: Version, content: &[u8]) -> Result<Option<E
     entry_of(version, points(field, V::has_ranges(version)), value)
 }
 
-const SPACES: &[u8] = b" \t";
+pub(crate) const SPACES: &[u8] = b" \t";
 
-const BLANKS: &[u8] = b" \t\r";
+pub(crate) const BLANKS: &[u8] = b" \t\r";
 
 /// Parses one line. Returns `None` if the line has no entry. Fails with the first cause that applies.
 #[inline(always)]

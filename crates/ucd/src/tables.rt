@@ -1,5 +1,7 @@
 //! The tables, which are read from the files or decoded from an image.
 ghost use Rattle.std.specs.Prelude.{◌≡◌, ◌≢◌, ◌<◌, ℕ, length, map, true, false, IfOk, IfErr};
+ghost use Rattle.std.specs.Prelude.{None, Some};
+ghost use Rattle.std.specs.Option.{option_map};
 ghost use Rattle.ucd.specs.Separators.{may_separate};
 ghost use Rattle.ucd.specs.declared.bidi_class.BidiClass.TheVariants.{B};
 ghost use Rattle.ucd.specs.Tables.{AreTablesOf, IsFaultOf, AreTablesAs, IsFaultAs};
@@ -15,6 +17,7 @@ use crate::bracket::Bracket;
 use crate::entries::{Entries, drop_entries};
 use crate::fault::TableFault;
 use crate::image_fault::ImageFault;
+use crate::joining_tables::JoiningTables;
 use crate::line_class::LineClass;
 use crate::line_detail::LineDetail;
 use crate::paged::PagedTables;
@@ -37,27 +40,32 @@ pub struct UcdFiles<'a> {
 }
 
 /// The properties of each character: bidi class, bracket, mirror, line breaking class, width and category.
-/// Copies share one block of memory, which the last owner frees.
+/// Tables may also have joining tables (`with_joining`). Copies share one block of memory, and a second one
+/// for joining tables. The last owner frees both.
 #[derive(Debug, Drop)]
 pub struct Tables {
     shared: Arc<PagedTables>,
     // Whether only LF and CR end paragraphs.
     separates_lines: bool,
+    joining: Option<Arc<JoiningTables>>,
 }
 
 impl Model for Tables {
     ghost use Rattle.std.specs.Arc.{arc_value};
-    ghost use Rattle.ucd.specs.Contents.{TableContents};
+    ghost use Rattle.std.specs.Option.{option_map};
+    ghost use Rattle.ucd.specs.Contents.{TableContents, joined};
     ghost use Rattle.ucd.specs.LineSeparators.{contents_if};
 
     ghost Value = { TableContents };
 
-    ghost view = { λ t. contents_if t.separates_lines (arc_value t.shared) };
+    ghost view = { λ t.
+        joined (option_map arc_value t.joining) (contents_if t.separates_lines (arc_value t.shared)) };
 }
 
 impl Tables {
     ghost use Rattle.std.specs.Arc.{arc_value};
     ghost use Rattle.ucd.specs.Agreeing.{SayAlike};
+    ghost use Rattle.ucd.specs.Contents.{joined};
     ghost use Rattle.ucd.specs.Imaged.{IsImageOf, AreImagePagesDistinct};
     ghost use Rattle.ucd.specs.Images.{IsImageFault};
     ghost use Rattle.ucd.specs.LineSeparators.{with_line_separators};
@@ -69,6 +77,7 @@ impl Tables {
     /// line order, with the first cause that applies (docs/reference.md).
     pub fn read(alloc: Global, files: &UcdFiles<'_>) -> Result<Tables, TableFault>
         ensures ok { IfOk result (AreTablesOf files.now) }
+        ensures no_joining { IfOk result (λ tables. tables.joining ≡ None) }
         ensures err { IfErr result (IsFaultOf files.now) }
     {
         Tables::read_as(alloc, Version::V15_0, files)
@@ -82,6 +91,7 @@ impl Tables {
         files: &UcdFiles<'_>,
     ) -> Result<Tables, TableFault>
         ensures ok { IfOk result (AreTablesAs version files.now) }
+        ensures no_joining { IfOk result (λ tables. tables.joining ≡ None) }
         ensures err { IfErr result (IsFaultAs version files.now) }
     {
         let entries = Entries::read(alloc, version, files)?;
@@ -99,6 +109,7 @@ impl Tables {
     /// brackets and mirrors.
     pub fn from_image(alloc: Global, bytes: &[u8]) -> Result<Tables, ImageFault>
         ensures ok { IfOk result (IsImageOf bytes.now) }
+        ensures no_joining { IfOk result (λ tables. tables.joining ≡ None) }
         ensures err { IfErr result (IsImageFault bytes.now) }
     {
         let paged = PagedTables::from_image(alloc, bytes)?;
@@ -109,7 +120,7 @@ impl Tables {
     }
 
     /// Encodes the tables as an image (docs/reference.md), which `from_image` decodes. No two pages of the
-    /// image are equal. Allocates 2.3 MB, and frees all but the image.
+    /// image are equal. Joining tables are not stored. Allocates 2.3 MB, and frees all but the image.
     pub fn to_image(&self, alloc: Global) -> Result<Vec<u8>, AllocError>
         ensures image { IfOk result (λ image. IsImageOf image.items self.now) }
         ensures distinct { IfOk result (λ image. AreImagePagesDistinct image.items) }
@@ -122,6 +133,7 @@ impl Tables {
         requires { AreKnown version entries.now }
         ensures version { IfOk result (λ tables. tables.version ≡ version) }
         ensures say { IfOk result (λ tables. SayAlike tables (contents_of version entries.now)) }
+        ensures no_joining { IfOk result (λ tables. tables.joining ≡ None) }
     {
         let shared = Arc::new(alloc, PagedTables::of(alloc, version, entries)?)?;
         Ok(Tables::in_shared(shared))
@@ -129,23 +141,36 @@ impl Tables {
 
     // Wraps tables that are in a shared block of memory.
     fn in_shared(shared: Arc<PagedTables>) -> Tables
-        ensures { result ≡ arc_value shared }
+        ensures { result ≡ joined None (arc_value shared) }
     {
         Tables {
             shared,
             separates_lines: false,
+            joining: None,
         }
     }
 
-    /// Returns the same tables for another owner. Nothing is copied: both owners share one block of memory
-    /// with an atomic reference count. `alloc` is not used. Fails only if there are already 2^63 owners.
+    // Returns the joining tables for another owner, if there are any.
+    fn share_joining(&self) -> Result<Option<Arc<JoiningTables>>, AllocError>
+        ensures { IfOk result (λ joining. option_map arc_value joining ≡ self.now.joining) }
+    {
+        match &self.joining {
+            Some(joining) => Ok(Some(Arc::try_clone(joining)?)),
+            None => Ok(None),
+        }
+    }
+
+    /// Returns the same tables for another owner. Nothing is copied: both owners share the blocks of memory,
+    /// by atomic reference counts. `alloc` is not used. Fails only if there are already 2^63 owners.
     pub fn copy(&self, _alloc: Global) -> Result<Tables, AllocError>
         ensures { IfOk result (λ tables. tables ≡ self.now) }
     {
         let shared = Arc::try_clone(&self.shared)?;
+        let joining = self.share_joining()?;
         Ok(Tables {
             shared,
             separates_lines: self.separates_lines,
+            joining,
         })
     }
 
@@ -158,10 +183,34 @@ impl Tables {
         ensures separates { IfOk result (SeparatesLines self.now) }
     {
         let shared = Arc::try_clone(&self.shared)?;
+        let joining = self.share_joining()?;
         Ok(Tables {
             shared,
             separates_lines: true,
+            joining,
         })
+    }
+
+    /// Returns the same tables with joining types and presentation forms, which replace those of `self`. The
+    /// other tables are shared, as in `copy`. Allocates one small block. Fails if memory runs out, or if the
+    /// tables already have 2^63 owners.
+    pub fn with_joining(&self, alloc: Global, joining: JoiningTables) -> Result<Tables, AllocError>
+        ensures { IfOk result (λ tables. tables ≡ record self.now { joining = Some joining }) }
+    {
+        let shared = Arc::try_clone(&self.shared)?;
+        let joining = Arc::new(alloc, joining)?;
+        Ok(Tables {
+            shared,
+            separates_lines: self.separates_lines,
+            joining: Some(joining),
+        })
+    }
+
+    /// Returns the joining types and presentation forms, if the tables have them.
+    pub fn joining(&self) -> Option<&JoiningTables>
+        ensures { option_map (λ t. t.now) result ≡ self.now.joining }
+    {
+        self.joining.as_deref()
     }
 
     /// Returns the version of Unicode.

@@ -10,6 +10,7 @@ ghost use Rattle.lines.specs.SameKind.{IsEdited, IsInRun, MakesText};
 ghost use Rattle.lines.specs.declared.engine.TheConstants.{PARAGRAPH_LIMIT};
 
 use crate::buffers::LayoutBuffers;
+use crate::changed::Change;
 use crate::engine::Engine;
 use crate::fill::Fill;
 use crate::laid::{Laid, put_all_widths, with_room};
@@ -17,6 +18,7 @@ use crate::matching::SharedLines;
 use crate::paragraph::LentRules;
 use crate::same_kind::{Replacement, RunChange, run_of};
 use crate::sizes::Ruler;
+use crate::windows::is_long;
 use crate::workspace::ready;
 use std::alloc::{AllocError, Global};
 
@@ -51,14 +53,53 @@ impl Engine {
         ensures rules { SameRules self.old self.new }
     {
         let Some(run) = run_of(&self.tables, old.text(), &text, edit) else {
-            return match self.lay_out(alloc, text, width) {
-                Ok(laid) => Ok((laid, SharedLines::NONE)),
-                Err((_text, error)) => Err(error),
-            };
+            return self.lay_out_again(alloc, old, edit, text, width);
         };
         let mut lists = LayoutBuffers::new(alloc);
         let change = RunChange { laid: old, run };
         let (base, shared) = self.fill_run(alloc, change, &text, None, width, &mut lists)?;
+        let laid = Laid {
+            text,
+            base,
+            tab_width: self.tab_width(),
+            is_measured: false,
+            sizes: Vec::new(alloc),
+            levels: lists.levels,
+            marks: lists.marks,
+            ends: lists.ends,
+            lines: Fill::of(lists.lines),
+        };
+        Ok((laid, shared))
+    }
+
+    // Implements `lay_out_edited` if a new analysis is needed.
+    fn lay_out_again(
+        &mut self,
+        alloc: Global,
+        old: &Laid,
+        edit: Replacement,
+        text: Vec<char>,
+        width: u32,
+    ) -> Result<(Laid, SharedLines), AllocError>
+        requires laid { IsLaidAt (with_advances (rules_of self.old) old.now.advances) width old.now }
+        requires edit { IsEdited old.now.text text.items edit }
+        requires paragraph { IsParagraph (rules_of self.old) text.items }
+        requires width { 0 < width }
+        ensures ok { IfOk result (λ done. done.0 ≡ layout_of (rules_of self.old) width text.items) }
+        ensures shared { IfOk result (λ done. ShareEnds (visuals old.now) (visuals done.0)
+            done.1.front done.1.back) }
+        ensures at_most { LaysOutAtMost (length text.items) self.old self.new }
+        ensures unmeasured { (rules_of self.old).advances ≡ None }
+        ensures rules { SameRules self.old self.new }
+    {
+        if !is_long(&text, width) {
+            return match self.lay_out(alloc, text, width) {
+                Ok(laid) => Ok((laid, SharedLines::NONE)),
+                Err((_text, error)) => Err(error),
+            };
+        }
+        let mut lists = LayoutBuffers::new(alloc);
+        let (base, shared) = self.fill_changed(alloc, old, edit, &text, width, &mut lists)?;
         let laid = Laid {
             text,
             base,
@@ -166,6 +207,40 @@ impl Engine {
             width,
         };
         let done = work.lay_out_run(&rules, change, text, ruler, lists, counts)?;
+        Ok(done)
+    }
+
+    // Does the same as `fill_lists` for a long paragraph that an edit has made of a laid-out one, but fills
+    // only a window of it, if possible. Also returns which lines are known to be the old ones.
+    fn fill_changed(
+        &mut self,
+        alloc: Global,
+        old: &Laid,
+        edit: Replacement,
+        text: &[char],
+        width: u32,
+        lists: &mut LayoutBuffers,
+    ) -> Result<(u8, SharedLines), AllocError>
+        requires laid { IsLaidAt (with_advances (rules_of self.old) old.now.advances) width old.now }
+        requires edit { IsEdited old.now.text text.now edit }
+        requires limit { length text.now ≤ PARAGRAPH_LIMIT }
+        ensures layout { IfOk result (λ done.
+            HoldsLayout (rules_of self.old) width text.now done.0 lists.new) }
+        ensures shared { IfOk result (λ done. ShareEnds (visuals old.now)
+            (visuals (layout_of (rules_of self.old) width text.now)) done.1.front done.1.back) }
+        ensures unmeasured { (rules_of self.old).advances ≡ None }
+        ensures at_most { LaysOutAtMost (length text.now) self.old self.new }
+        ensures rules { SameRules self.old self.new }
+    {
+        let work = ready(&mut self.work, alloc)?;
+        work.lend_lists(text.len(), lists);
+        let counts = &mut self.counts;
+        let rules = LentRules {
+            tables: &self.tables,
+            options: self.options,
+        };
+        let change = Change { laid: old, edit };
+        let done = work.lay_out_changed(&rules, change, text, width, lists, counts)?;
         Ok(done)
     }
 }

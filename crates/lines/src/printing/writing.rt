@@ -20,11 +20,11 @@ ghost use Rattle.lines.specs.declared.engine.TheConstants.{PARAGRAPH_LIMIT};
 
 use crate::buffers::VisualBuffers;
 use crate::counts::Count;
-use crate::extents::{Extents, end_of};
+use crate::extents::Extents;
 use crate::paragraph::{LogicalLine, Text};
 use crate::printing::bytes::WriteFault;
 use crate::printing::print::Print;
-use crate::showing::{ends_between, is_plain, reset_line, show_chars, show_part};
+use crate::showing::{is_plain, reset_line, show_chars, show_part};
 use crate::visual_line::VisualLine;
 use device::Sink;
 
@@ -67,26 +67,16 @@ pub(crate) fn write_each<W: Sink>(
     ensures counts { count.new ≡ counted count.old (length text.now.characters.now) }
     ensures least { count.old ≤ count.new }
 {
-    let characters = text.characters;
-    let properties = text.properties;
-    let ends = text.ends;
     let starts = extents.starts();
-    count.raise(characters.len());
+    count.raise(text.characters.len());
     let mut written = 0;
     let mut k = 0;
     while k < starts.len() {
-        let start = starts[k] as usize;
-        let end = end_of(starts, k, characters.len());
+        let slice = extents.line_at(starts, text, k);
         let line = LogicalLine {
-            text: Text {
-                rules: text.rules,
-                characters: &characters[start..end],
-                properties: &properties[start..end],
-                ends: ends_between(ends, start, end),
-                base: text.base,
-            },
-            levels: &levels[start..end],
-            shown: extents.shown(k),
+            text: slice.text,
+            levels: &levels[slice.start..slice.end],
+            shown: slice.shown,
             is_first: k == 0,
         };
         written = write_line(writer, written, form, &line, visual)?;

@@ -1,19 +1,28 @@
-use Rattle.std.proofs.Common.{◌&&◌, take, sym, ap, ◌∙◌}
+use Rattle.std.proofs.Common.{◌-◌, ◌%◌, Bool, ◌&&◌, length, drop, sym, ap, ◌∙◌, arith}
 use Rattle.std.specs.List.{list_all}
-use Rattle.std.proofs.lemmas.List.{take_all}
-use Rattle.std.proofs.lemmas.List.Folds.{list_all_more}
+use Rattle.std.proofs.lemmas.List.{take_rest}
+use Rattle.ucd.specs.declared.properties.Properties.{Properties}
 use Rattle.ucd.specs.Classes.{class_in}
 use Rattle.bidi.specs.Plain.{is_flat_at}
+use Rattle.bidi.proofs.OverlapLemmas.{all-overlap}
 use Rattle.bidi.proofs.resolver.are_flat_by.Goals as goal
 
-pub loop-at-preserved : goal.loop-at-preserved
-loop-at-preserved c =
-    let at = c.loop-at.at in
-    let properties = c.args.properties.now in
-    let one = c.index-properties-at.result in
-    ap (λ b. b && c.is_flat_at-flat.result) c.loop-at.invariant
-    ∙ ap (λ b. list_all (λ one. is_flat_at c.args.base (class_in one)) (take at properties) && b) (c.is_flat_at-flat.ensures ∙ ap (is_flat_at c.args.base) (c.bidi_class.ensures ∙ ap class_in c.index-properties-at.is))
-    ∙ sym (list_all_more (λ one. is_flat_at c.args.base (class_in one)) properties at one c.loop-at-test.true)
+pub returns-then-are_each_flat : goal.returns-then-are_each_flat
+returns-then-are_each_flat c =
+    let xs = c.args.properties.now in
+    let n = length xs - 16 in
+    let m = length xs - length xs % 16 in
+    let f : Properties → Bool = λ one. is_flat_at c.args.base (class_in one) in
+    c.are_each_flat-then-are_each_flat.ensures ∙ ap (list_all f) (take_rest xs n)
+    ∙ ap (λ b. b && list_all f (drop n xs)) (sym c.if-are_each_flat.true ∙ c.are_each_flat-2.ensures)
+    ∙ all-overlap xs n m (omega (arith, c.if-len-lt-GROUP.false)) f
 
-pub returns : goal.returns
-returns c = c.loop-at.invariant ∙ ap (list_all (λ one. is_flat_at c.args.base (class_in one))) (take_all c.loop-at.at c.args.properties.now c.loop-at-test.false)
+pub returns-else-are_each_flat : goal.returns-else-are_each_flat
+returns-else-are_each_flat c =
+    let xs = c.args.properties.now in
+    let n = length xs - 16 in
+    let m = length xs - length xs % 16 in
+    let f : Properties → Bool = λ one. is_flat_at c.args.base (class_in one) in
+    c.if-are_each_flat.false
+    ∙ ap (λ b. b && list_all f (drop n xs)) (sym c.if-are_each_flat.false ∙ c.are_each_flat-2.ensures)
+    ∙ all-overlap xs n m (omega (arith, c.if-len-lt-GROUP.false)) f

@@ -1,49 +1,43 @@
-use Rattle.std.proofs.Common.{◌≡◌, ◌<◌, Bool, true, false, not, refl, ◌&&◌, ◌||◌, ◌∷◌, [], ◌++◌, length, map, get_or, take, sym, ap, ◌∙◌, arith}
+use Rattle.std.proofs.Common.{◌≡◌, ◌-◌, ◌%◌, Bool, ◌&&◌, ◌||◌, ◌++◌, length, map, take, drop, refl, sym, ap, ◌∙◌, arith}
 use Rattle.std.specs.List.{list_all, list_any}
-use Rattle.std.proofs.lemmas.List.{map-append, take_all, take_more, take_more_set}
-use Rattle.std.proofs.lemmas.List.Folds.{list_all-map, list_all_more, list_any_more}
+use Rattle.std.proofs.lemmas.List.{length-append, length-drop, length-map, length-take-le, take_rest}
+use Rattle.std.proofs.lemmas.List.Folds.{list_all-map}
+use Rattle.ucd.specs.declared.properties.Properties.{Properties}
 use Rattle.ucd.specs.Classes.{class_in}
 use Rattle.bidi.specs.Plain.{has_bracket_in, is_plain}
+use Rattle.bidi.proofs.OverlapLemmas.{all-overlap, any-overlap, map-front, map-rest}
 use Rattle.bidi.proofs.resolver.put_classes.Goals as goal
 
-not-either : (a b : Bool) → (not a && not b) ≡ not (a || b)
-not-either true b = refl
-not-either false b = refl
+pub returns-clause-classes : goal.returns-clause-classes
+returns-clause-classes c =
+    let xs = c.args.properties.now in
+    let n = length xs - 16 in
+    let m = length xs - length xs % 16 in
+    let first = c.put_each-first.new.classes in
+    let rest = drop m c.args.classes.now in
+    let front : length (map class_in (take n xs)) ≡ n = length-map (take n xs) class_in ∙ length-take-le n xs (omega arith) in
+    let start : length first ≡ m = ap length c.put_each-first.ensures.classes ∙ length-map (take m xs) class_in ∙ length-take-le m xs (omega arith) in
+    let size : length (first ++ rest) ≡ length xs = length-append first rest ∙ omega (arith, start, length-drop m c.args.classes.now, c.requires) in
+    map-rest class_in n (length (first ++ rest) - n) xs (first ++ rest) c.put_last-last.new.classes size (omega arith) refl
+    (ap (λ ys. take n (ys ++ rest)) c.put_each-first.ensures.classes ∙ map-front xs n m (omega (arith, c.if-len-lt-GROUP.false)) class_in rest front)
+    (c.put_last-last.ensures.classes ∙ ap (map class_in) (take_rest xs n))
 
-not-not : (a : Bool) → not (not a) ≡ a
-not-not true = refl
-not-not false = refl
+pub returns-clause-plain : goal.returns-clause-plain
+returns-clause-plain c =
+    let xs = c.args.properties.now in
+    let n = length xs - 16 in
+    let m = length xs - length xs % 16 in
+    let f : Properties → Bool = λ one. is_plain (class_in one) in
+    ap (λ b. b && c.put_last-last.result.is_plain) (c.put_each-first.ensures.plain ∙ list_all-map is_plain class_in (take m xs))
+    ∙ ap (λ b. list_all f (take m xs) && b) (c.put_last-last.ensures.plain ∙ ap (λ ys. list_all is_plain (map class_in ys)) (take_rest xs n) ∙ list_all-map is_plain class_in (drop n xs))
+    ∙ all-overlap xs n m (omega (arith, c.if-len-lt-GROUP.false)) f
+    ∙ sym (list_all-map is_plain class_in xs)
 
-pub loop-at-preserved : goal.loop-at-preserved
-loop-at-preserved c =
-    let at = c.loop-at.at in
-    let properties = c.args.properties.now in
-    let one = c.index-properties-at.result in
-    let within : at < length properties = c.loop-at-test.true in
-    let class = c.bidi_class-class.result in
-    let is : one ≡ get_or properties at one = c.index-properties-at.is in
-    record {
-      classes = take_more_set c.loop-at.classes at class (omega (arith, c.requires))
-          ∙ ap (λ xs. xs ++ class ∷ []) c.loop-at.invariant.classes
-          ∙ ap (λ x. map class_in (take at properties) ++ x ∷ []) (c.bidi_class-class.ensures ∙ ap class_in is)
-          ∙ sym (map-append class_in (take at properties) (get_or properties at one ∷ []))
-          ∙ ap (map class_in) (sym (take_more properties at one within));
-      plain = ap (λ b. b && c.is_plain-all_plain.result) c.loop-at.invariant.plain
-          ∙ ap (λ b. list_all (λ one. is_plain (class_in one)) (take at properties) && b) (c.is_plain-all_plain.ensures ∙ ap is_plain (c.bidi_class-class.ensures ∙ ap class_in is))
-          ∙ sym (list_all_more (λ one. is_plain (class_in one)) properties at one within);
-      brackets = ap (λ b. b && not c.has_bracket.result) c.loop-at.invariant.brackets
-          ∙ ap (λ b. not (list_any has_bracket_in (take at properties)) && not b) (c.has_bracket.ensures ∙ ap has_bracket_in is)
-          ∙ not-either (list_any has_bracket_in (take at properties)) (has_bracket_in (get_or properties at one))
-          ∙ ap not (sym (list_any_more has_bracket_in properties at one within));
-    }
-
-pub returns : goal.returns
-returns c =
-    let at = c.loop-at.at in
-    let properties = c.args.properties.now in
-    let all : take at properties ≡ properties = take_all at properties c.loop-at-test.false in
-    record {
-      classes = sym (take_all at c.loop-at.classes (omega (arith, c.loop-at.auto.classes, c.requires, c.loop-at-test.false))) ∙ c.loop-at.invariant.classes ∙ ap (map class_in) all;
-      plain = c.loop-at.invariant.plain ∙ ap (list_all (λ one. is_plain (class_in one))) all ∙ sym (list_all-map is_plain class_in properties);
-      brackets = ap not c.loop-at.invariant.brackets ∙ not-not (list_any has_bracket_in (take at properties)) ∙ ap (list_any has_bracket_in) all;
-    }
+pub returns-clause-brackets : goal.returns-clause-brackets
+returns-clause-brackets c =
+    let xs = c.args.properties.now in
+    let n = length xs - 16 in
+    let m = length xs - length xs % 16 in
+    ap (λ b. b || c.put_last-last.result.has_brackets) c.put_each-first.ensures.brackets
+    ∙ ap (λ b. list_any has_bracket_in (take m xs) || b) (c.put_last-last.ensures.brackets ∙ ap (list_any has_bracket_in) (take_rest xs n))
+    ∙ any-overlap xs n m (omega (arith, c.if-len-lt-GROUP.false)) has_bracket_in

@@ -19,8 +19,8 @@ returns c =
     let line = c.line_of-old_line.result in
     record {
       line = slice_get-get_or starts c.args.n 0 c.requires.n;
-      after_run = omega (arith, c.if-start-run.false);
+      after_edit = omega (arith, c.if-start-edit.false);
       split = sym c.if-not-is_split_point.ensures;
       old_line = ap (λ (xs : List ℕ). slice_get xs line) (sym c.line_starts-old.ensures) ∙ slice_get-get_or old line 0 c.line_of-old_line.ensures.within ∙ ap Some (omega (arith, c.if-old-old_line.false));
-      same = omega (arith, c.if-start-run.false);
+      same = omega (arith, c.if-start-edit.false);
     }

@@ -69,7 +69,7 @@ returns-clause-lines c =
     let infos = take len c.args.infos.now in
     let part = slice_range e.text.now w.start (w.start + len) in
     let levels = slice_range e.levels.now w.start (w.start + len) in
-    let base = e.change.laid.now.base in
+    let base = e.laid.now.base in
     let starts = c.put_starts.new.self.starts in
     let size : length infos ≡ length part =
     length-take-le len c.args.infos.now (omega (arith, c.requires.len, c.requires.filled.len))

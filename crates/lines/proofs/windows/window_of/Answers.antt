@@ -24,19 +24,19 @@ returns c =
     let e = c.args.edited.now in
     let starts = c.line_starts-starts.result.now in
     let line = c.first_line-line.result in
-    let len : c.saturating_sub.result ≡ e.change.run.at - 1 = omega (arith, c.saturating_sub.ensures) in
+    let len : c.saturating_sub.result ≡ e.edit.at - 1 = omega (arith, c.saturating_sub.ensures) in
     let found = c.in_ok-last.ensures in
     let last : c.in_ok-last.last + 1 - 1 ≡ c.in_ok-last.last = omega arith in
-    let line_is : slice_get (map start_of e.change.laid.now.lines) line ≡ Some (slice_index starts line) =
+    let line_is : slice_get (map start_of e.laid.now.lines) line ≡ Some (slice_index starts line) =
     ap (λ (xs : List ℕ). slice_get xs line) (sym c.line_starts-starts.ensures) ∙ slice_get-get_or starts line 0 c.first_line-line.ensures.within in
-    let first : IsFirstLine (map start_of e.change.laid.now.lines) e.change.laid.now.marks (e.change.run.at - 1) line =
-    subst (λ n. IsFirstLine (map start_of e.change.laid.now.lines) e.change.laid.now.marks n line) len
-    (subst (λ (xs : List ℕ). IsFirstLine xs e.change.laid.now.marks c.saturating_sub.result line) c.line_starts-starts.ensures
+    let first : IsFirstLine (map start_of e.laid.now.lines) e.laid.now.marks (e.edit.at - 1) line =
+    subst (λ n. IsFirstLine (map start_of e.laid.now.lines) e.laid.now.marks n line) len
+    (subst (λ (xs : List ℕ). IsFirstLine xs e.laid.now.marks c.saturating_sub.result line) c.line_starts-starts.ensures
     (subst (λ (ms : List Mark). IsFirstLine starts ms c.saturating_sub.result line) c.marks.ensures c.first_line-line.ensures.line)) in
     record {
       line = line_is;
       first = first;
-      run = omega (arith, found.range.0, c.requires.edited.run.some.1);
+      edit = omega (arith, found.range.0, c.requires.some.1);
       order = omega (arith, first_low e c.requires line (slice_index starts line) line_is first, found.range.0);
       within = omega (arith, found.within, c.requires.edited.marks_len);
       breaks = ap (λ k. is_break (slice_index_or e.marks.now k Never)) last ∙ found.breaks;

@@ -1,9 +1,6 @@
-use Rattle.std.proofs.Common.{sym, ◌∙◌, arith}
-use Rattle.lines.proofs.ColumnSumLemmas.{sum_common, sum_printable}
+use Rattle.std.proofs.Common.{arith}
+use Rattle.lines.proofs.ColumnSumLemmas.{ones}
 use Rattle.lines.proofs.column_cache.ColumnCache.sum_of_group.Goals as goal
 
-pub returns-then-are_printable-clause-sum : goal.returns-then-are_printable-clause-sum
-returns-then-are_printable-clause-sum c = omega (arith, sum_printable c.args.group.now (sym c.are_printable.ensures ∙ c.if-are_printable.true))
-
-pub returns-then-are_common-clause-sum : goal.returns-then-are_common-clause-sum
-returns-then-are_common-clause-sum c = omega (arith, sum_common c.args.group.now (sym c.are_common.ensures ∙ c.if-are_common.true))
+pub returns-then-have_one_column-clause-sum : goal.returns-then-have_one_column-clause-sum
+returns-then-have_one_column-clause-sum c = omega (arith, ones c.args.group.now (c.have_one_column.ensures c.if-have_one_column.true))

@@ -1,9 +1,11 @@
-use Rattle.std.proofs.Common.{◌≡◌, ◌∙◌, ℕ, List, length, ap, refl, sym}
+use Rattle.std.proofs.Common.{◌≡◌, ◌∙◌, ◌+◌, ◌≤◌, ℕ, List, length, ap, refl, subst, sym, arith}
 use Rattle.breaks.specs.Marks.{marks_of}
 use Rattle.breaks.specs.declared.mark.Mark.{Mark}
 use Rattle.lines.specs.Layouts.{with_advances, Layout}
 use Rattle.lines.specs.Paragraphs.{rules_in}
-use Rattle.lines.specs.SameKind.{levels_with, marks_with}
+use Rattle.lines.specs.SameKind.{levels_with, marks_with, replacement}
+use Rattle.lines.specs.Windows.{StaysOutside}
+use Rattle.lines.proofs.EditedLemmas.{levels_stay_with, marks_stay_with}
 use Rattle.lines.proofs.SameKindLemmas.{put_levels, put_levels_len, put_marks, same_base}
 use Rattle.lines.proofs.workspace.Workspace.lay_out_run.Goals as goal
 
@@ -22,18 +24,22 @@ fill_edited-requires-clause-edited c =
     let len = put_levels_len by width laid is text run c.requires.change.run c.levels.result.now c.put_levels.new.list.items c.levels.ensures.levels c.levels.ensures.len c.in_ok-put_levels.ensures in
     let marks = c.deref-2.ensures.value
     ∙ put_marks by width laid is text run c.requires.change.run c.marks.result.now c.put_marks.new.list.items c.marks.ensures as_many c.in_ok-put_marks.ensures c.doubling_keeps_marks.ensures in
+    let laid_levels : length laid.levels ≡ length laid.text = sym (ap (λ (xs : List ℕ). length xs) c.levels.ensures.levels) ∙ c.levels.ensures.len in
+    let laid_marks : length laid.marks ≡ length laid.text = ap (λ (l : Layout). length l.marks) is ∙ as_many in
     record {
       laid = is;
-      laid_levels = sym (ap (λ (xs : List ℕ). length xs) c.levels.ensures.levels) ∙ c.levels.ensures.len;
-      laid_marks = ap (λ (l : Layout). length l.marks) is ∙ as_many;
-      run = c.requires.change.run;
+      laid_levels = laid_levels;
+      laid_marks = laid_marks;
+      edit = record { within = c.requires.change.run.within; before = c.requires.change.run.before; after = c.requires.change.run.after };
       limits = (c.requires.change.laid.paragraph.within, c.requires.limit);
-      base = same_base by width laid is text run c.requires.change.run laid.base refl theorem;
-      levels_put = c.deref.ensures.value ∙ c.in_ok-put_levels.ensures ∙ ap (levels_with run) c.levels.ensures.levels;
+      base = same_base by width laid is text run c.requires.change.run c.base.result c.base.ensures theorem;
+      levels_stay = subst (StaysOutside (replacement run) laid.levels) (sym (c.deref.ensures.value ∙ c.in_ok-put_levels.ensures ∙ ap (levels_with run) c.levels.ensures.levels))
+          (levels_stay_with run laid.levels (omega (arith, laid_levels, c.requires.change.run.within.0)));
       levels = c.deref.ensures.value
           ∙ put_levels by width laid is text run c.requires.change.run c.levels.result.now c.put_levels.new.list.items c.levels.ensures.levels c.levels.ensures.len c.in_ok-put_levels.ensures theorem;
       levels_len = ap (λ (xs : List ℕ). length xs) c.deref.ensures.value ∙ len;
-      marks_put = c.deref-2.ensures.value ∙ c.in_ok-put_marks.ensures ∙ ap (marks_with run) c.marks.ensures;
+      marks_stay = subst (StaysOutside (replacement run) laid.marks) (sym (c.deref-2.ensures.value ∙ c.in_ok-put_marks.ensures ∙ ap (marks_with run) c.marks.ensures))
+          (marks_stay_with run laid.marks c.requires.change.run.some (omega (arith, laid_marks, c.requires.change.run.within.0)));
       marks = marks;
       marks_len = ap (λ (ms : List Mark). length ms) marks ∙ c.marks_are_as_many-2.ensures;
     }
@@ -52,7 +58,7 @@ returns-clause-layout c =
     sym (ap (λ (t : List ℕ). length (marks_of rules.tables.now rules.options.whole_numbers t)) c.text.ensures) ∙ c.marks_are_as_many.ensures ∙ ap (λ (t : List ℕ). length t) c.text.ensures in
     let found = c.in_ok-shared.ensures in
     record {
-      base_is = same_base by width laid is text run c.requires.change.run c.base.result c.base.ensures theorem;
+      base_is = same_base by width laid is text run c.requires.change.run c.base-2.result c.base-2.ensures theorem;
       levels = put_levels by width laid is text run c.requires.change.run c.levels.result.now c.put_levels.new.list.items c.levels.ensures.levels c.levels.ensures.len c.in_ok-put_levels.ensures theorem;
       marks = put_marks by width laid is text run c.requires.change.run c.marks.result.now c.put_marks.new.list.items c.marks.ensures as_many c.in_ok-put_marks.ensures c.doubling_keeps_marks.ensures;
       ends = c.in_ok-fill_ends.ensures;

@@ -11,6 +11,7 @@ use Rattle.ucd.proofs.VersionLemmas.{number_plain}
 use Rattle.ucd.proofs.tables.Tables.classes_fit_version.Goals as goal
 
 pub returns : goal.returns
+unfolding line_class_of line_detail_of
 returns c = λ is x lt.
     let separates = c.self.inside.separates_lines in
     let t : Tables = arc_value c.self.inside.shared in

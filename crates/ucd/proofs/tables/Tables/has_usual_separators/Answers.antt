@@ -6,12 +6,14 @@ use Rattle.ucd.proofs.tables.Tables.has_usual_separators.Goals as goal
 
 -- characters that are not usual separators keep their classes
 pub returns-clause-yes : goal.returns-clause-yes
+unfolding class_of
 returns-clause-yes c = λ is x lt other separates.
     usual_if c.self.inside.separates_lines (arc_value c.self.inside.shared) x lt
     (λ same. c.has_usual_separators.ensures.yes is x lt other (ap (λ t. class_of t x) c.deref.ensures ∙ same))
     (ap (λ t. class_of t x) c.self.view_is ∙ separates)
 
 pub returns-clause-no : goal.returns-clause-no
+unfolding class_of
 returns-clause-no c = λ isnt all.
     c.has_usual_separators.ensures.no isnt (λ x lt other separates.
     unusual_if c.self.inside.separates_lines (arc_value c.self.inside.shared) x lt other

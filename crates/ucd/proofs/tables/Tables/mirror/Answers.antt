@@ -5,6 +5,7 @@ use Rattle.ucd.proofs.LineLemmas.{mirror_if}
 use Rattle.ucd.proofs.tables.Tables.mirror.Goals as goal
 
 pub returns : goal.returns
+unfolding mirror_of
 returns c =
     c.mirror.ensures ∙ ap (λ t. mirror_of t c.args.c) c.deref.ensures
     ∙ sym (mirror_if c.self.inside.separates_lines (arc_value c.self.inside.shared) c.args.c)
