@@ -20,6 +20,9 @@ use crate::walk_17::{NarrowWalk17, Rules17, Walk17};
 use std::alloc::{AllocError, Global};
 use ucd::{Properties, Tables, Version};
 
+// The number of marks that are decided at a time. The compiler unrolls a loop of fixed length.
+const GROUP: usize = 4;
+
 /// Whether a line may or must end after a character of a paragraph.
 #[derive(Clone, Copy, Debug, PartialEq, Eq)]
 pub enum Mark {
@@ -150,9 +153,18 @@ fn fill_each<R: Rules, W: Walk<R>, C: Characters>(characters: C, rules: R, marks
     };
     let mut walk = W::start(first);
     let last = rest.len();
-    for i in 0..last {
+    let mut i = 0;
+    'groups: while i + GROUP <= last {
+        'group: for done in 0..GROUP {
+            let outcome = walk.pass(rest.get(i));
+            marks[i] = decide_before(rest, i + 1, outcome, rules);
+            i += 1;
+        }
+    }
+    'rest: while i < last {
         let outcome = walk.pass(rest.get(i));
         marks[i] = decide_before(rest, i + 1, outcome, rules);
+        i += 1;
     }
     marks[last] = Mark::Must;
 }

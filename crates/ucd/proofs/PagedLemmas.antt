@@ -1,9 +1,10 @@
 -- The properties that paged tables return for each code point, and the contents that they model.
-use Rattle.std.proofs.Common.{◌≡◌, ℕ, zero, suc, ◌<◌, ◌≤◌, ◌&&◌, Bool, true, false, List, [], ◌∷◌, ◌++◌, Option, Some, None, is_some, unwrap_or, refl, sym, ◌∙◌, ap, inl, inr, arith, if◌then◌else◌}
+use Rattle.std.proofs.Common.{◌≡◌, ℕ, zero, suc, ◌<◌, ◌≤◌, ◌+◌, ◌&&◌, Bool, true, false, List, [], ◌∷◌, ◌++◌, Option, Some, None, is_some, unwrap_or, length, map, take, set, get_or, refl, sym, ◌∙◌, ap, inl, inr, arith, if◌then◌else◌}
 use Rattle.std.specs.Char.{IsScalar}
 use Rattle.std.specs.BTreeMap.{BTreeMap, get}
 use Rattle.std.specs.Ordering.{nat_cmp}
 use Rattle.std.proofs.lemmas.Bool.{cases_lt}
+use Rattle.std.proofs.lemmas.List.{map-append, take_more, take_more_set}
 use Rattle.std.proofs.lemmas.Bool.Decides.{nat_tests}
 use Rattle.ucd.specs.Answers.{PropertyAnswers}
 use Rattle.ucd.specs.Entries.{value_at}
@@ -144,3 +145,10 @@ module _ (version : Version) (index : List ℕ) (entries : List PropertyAnswers)
       let bracket : is_some (bracket_of tables c) ≡ answers.has_bracket = ap is_some bracket_is ∙ sym (sound.bracket c lt) in
       let mirror : is_some (mirror_of tables c) ≡ answers.has_mirror = ap is_some mirror_is ∙ some_mirror (get nat_cmp mirrors c) ∙ sym (sound.mirror c lt) in
       rw (class_is, line_class_is, line_detail_is, wide_is, mark_is ((sound.entry c lt).apart), future_is, bracket, mirror) refl
+
+-- A loop has looked up `f` of the first k characters, and looks it up for one more.
+pub looked_up_more : {T : Type 0} → (f : ℕ → T) (text : List ℕ) (found : List T) (k one : ℕ) (v : T) → k < length text → k < length found → v ≡ f (get_or text k one) → take k found ≡ map f (take k text) → take (k + 1) (set found k v) ≡ map f (take (k + 1) text)
+looked_up_more {T} f text found k one v in_text in_found is before =
+    take_more_set found k v in_found ∙ ap (λ (vs : List T). vs ++ v ∷ []) before
+    ∙ ap (λ x. map f (take k text) ++ x ∷ []) is
+    ∙ sym (ap (map f) (take_more text k one in_text) ∙ map-append f (take k text) (get_or text k one ∷ []))

@@ -19,6 +19,9 @@ use std::alloc::{AllocError, Global};
 use std::collections::BTreeMap;
 use std::marker::Model;
 
+// The number of characters that are looked up at a time. The compiler unrolls a loop of fixed length.
+const GROUP: usize = 8;
+
 /// The properties of each character, in pages, and maps of the brackets and mirrors.
 #[derive(Debug)]
 pub struct PagedTables {
@@ -183,8 +186,16 @@ impl PagedTables {
         // assume that each write may change them.
         let index = self.pages.index.as_slice();
         let entries = self.pages.entries.as_slice();
-        for k in 0..text.len() {
+        let mut k = 0;
+        'groups: while k + GROUP <= text.len() {
+            'group: for done in 0..GROUP {
+                properties[k] = entry_of(index, entries, text[k]);
+                k += 1;
+            }
+        }
+        'rest: while k < text.len() {
             properties[k] = entry_of(index, entries, text[k]);
+            k += 1;
         }
     }
 

@@ -1,28 +1,31 @@
-use Rattle.std.proofs.Common.{◌≡◌, ◌∙◌, List, ◌++◌, ◌∷◌, [], map, get_or, take, sym, ap, arith}
-use Rattle.std.proofs.lemmas.List.{map-append, take_all, take_more, take_more_set}
+use Rattle.std.proofs.Common.{◌≡◌, ◌∙◌, ap, arith}
 use Rattle.ucd.specs.Pages.{answers_at}
 use Rattle.ucd.specs.Properties.{properties_of}
-use Rattle.ucd.specs.declared.properties.Properties.{Properties}
-use Rattle.ucd.proofs.PagedLemmas.{properties_are}
+use Rattle.ucd.proofs.PagedLemmas.{looked_up_more, properties_are}
 use Rattle.ucd.proofs.paged.PagedTables.look_up.Goals as goal
 
-pub loop-k-preserved : goal.loop-k-preserved
-loop-k-preserved c =
-    let text = c.args.text.now in
-    let k = c.loop-k.k in
+pub group-preserved : goal.group-preserved
+group-preserved c =
+    let k = c.group.k in
     let one = c.index-text-k.result in
     let found = c.entry_of.result in
     let is : found ≡ properties_of c.args.self.now one =
     rw (← c.self.view_is) (c.entry_of.ensures.answers ∙ ap (λ xs. answers_at xs c.as_slice-entries.result.now one) c.as_slice-index.ensures.value
     ∙ ap (λ xs. answers_at c.self.inside.pages.index.items xs one) c.as_slice-entries.ensures.value ∙ properties_are _ _ _ _ _ one c.entry_of.ensures.point c.self.invariant) in
-    take_more_set c.loop-k.properties k found (omega (arith, c.loop-k-test.true, c.loop-k.auto.properties, c.requires))
-    ∙ ap (λ (xs : List Properties). xs ++ found ∷ []) c.loop-k.invariant
-    ∙ ap (λ x. map (properties_of c.args.self.now) (take k text) ++ x ∷ []) (is ∙ ap (properties_of c.args.self.now) c.index-text-k.is)
-    ∙ sym (ap (map (properties_of c.args.self.now)) (take_more text k one c.loop-k-test.true) ∙ map-append (properties_of c.args.self.now) (take k text) (get_or text k one ∷ []))
+    record {
+      looked_up = looked_up_more (properties_of c.args.self.now) c.args.text.now c.group.properties k one found (omega arith) (omega arith)
+          (is ∙ ap (properties_of c.args.self.now) c.index-text-k.is) c.group.invariant.looked_up;
+      left = omega arith;
+      least = omega arith;
+    }
 
-pub returns : goal.returns
-returns c =
-    let text = c.args.text.now in
-    let k = c.loop-k.k in
-    sym (take_all k c.loop-k.properties (omega (arith, c.loop-k-test.false, c.loop-k.auto.properties, c.requires)))
-    ∙ c.loop-k.invariant ∙ ap (map (properties_of c.args.self.now)) (take_all k text c.loop-k-test.false)
+pub rest-preserved : goal.rest-preserved
+rest-preserved c =
+    let k = c.rest.k in
+    let one = c.index-text-k-in-rest.result in
+    let found = c.entry_of-in-rest.result in
+    let is : found ≡ properties_of c.args.self.now one =
+    rw (← c.self.view_is) (c.entry_of-in-rest.ensures.answers ∙ ap (λ xs. answers_at xs c.as_slice-entries.result.now one) c.as_slice-index.ensures.value
+    ∙ ap (λ xs. answers_at c.self.inside.pages.index.items xs one) c.as_slice-entries.ensures.value ∙ properties_are _ _ _ _ _ one c.entry_of-in-rest.ensures.point c.self.invariant) in
+    looked_up_more (properties_of c.args.self.now) c.args.text.now c.rest.properties k one found (omega arith) (omega arith)
+    (is ∙ ap (properties_of c.args.self.now) c.index-text-k-in-rest.is) c.rest.invariant
