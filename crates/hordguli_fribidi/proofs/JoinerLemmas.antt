@@ -7,11 +7,11 @@ use Rattle.joining.specs.Joiners.{is_transparent, joiner_at}
 use Rattle.joining.specs.declared.joiner.Joiner.{Joiner}
 use Rattle.hordguli_fribidi.specs.Joining.{joined, joined_at, joiners, level_of, sides_from, sides_of, sides_over, sides_past, type_of}
 
-pub joiners_length : (types levels properties : List ℕ) → length (joiners types levels properties) ≡ min (min (length types) (length levels)) (length properties)
-joiners_length [] levels properties = omega arith
-joiners_length (t ∷ types) [] properties = omega arith
-joiners_length (t ∷ types) (l ∷ levels) [] = omega arith
-joiners_length (t ∷ types) (l ∷ levels) (p ∷ properties) = omega (arith, joiners_length types levels properties)
+pub joiners_len : (types levels properties : List ℕ) → length (joiners types levels properties) ≡ min (min (length types) (length levels)) (length properties)
+joiners_len [] levels properties = omega arith
+joiners_len (t ∷ types) [] properties = omega arith
+joiners_len (t ∷ types) (l ∷ levels) [] = omega arith
+joiners_len (t ∷ types) (l ∷ levels) (p ∷ properties) = omega (arith, joiners_len types levels properties)
 
 pub joiner_is : (types levels properties : List ℕ) (k : ℕ) → k < length (joiners types levels properties)
     → joiner_at (joiners types levels properties) k

@@ -147,7 +147,7 @@ struct Paragraph<'a> {
 impl Joiners for Paragraph<'_> {
     ghost all = { λ s. joiners s.types.now s.levels.now s.properties.now };
 
-    #[tactic(auto, using(crate::proofs::JoinerLemmas::joiners_length))]
+    #[tactic(auto, using(crate::proofs::JoinerLemmas::joiners_len))]
     fn len(&self) -> usize {
         self.types
             .len()
@@ -155,7 +155,7 @@ impl Joiners for Paragraph<'_> {
             .min(self.properties.len())
     }
 
-    #[tactic(auto, using(crate::proofs::JoinerLemmas::joiners_length, crate::proofs::JoinerLemmas::joiner_is))]
+    #[tactic(auto, using(crate::proofs::JoinerLemmas::joiners_len, crate::proofs::JoinerLemmas::joiner_is))]
     fn joiner_at(&self, k: usize) -> Joiner {
         let property = self.properties[k];
         Joiner {
@@ -228,11 +228,12 @@ fn joined(c: Joiner, before: u8, after: u8, property: u8) -> u8
 
 // Returns the property of the first character after joining, and the sides of the join over the boundary
 // after it, given those over the boundary before it.
-#[tactic(auto, using(crate::proofs::JoinerLemmas::joiners_length))]
+#[tactic(auto, using(crate::proofs::JoinerLemmas::joiners_len))]
 fn join_first(text: &Paragraph, before: u8) -> (u8, u8)
     requires { 0 < length (joiners text.now.types.now text.now.levels.now text.now.properties.now) }
     ensures property { let all = joiners text.now.types.now text.now.levels.now text.now.properties.now in
-        result.0 ≡ joined (joiner_at all 0) before (sides_past all before) (slice_index text.now.properties.now 0) }
+        result.0 ≡ joined (joiner_at all 0) before (sides_past all before)
+        (slice_index text.now.properties.now 0) }
     ensures after { result.1 ≡ sides_past (joiners text.now.types.now text.now.levels.now
         text.now.properties.now) before }
 {

@@ -68,8 +68,8 @@ impl Kept {
         })
     }
 
-    /// Does the same as `new`, for a layout whose text an edit has made of that of `old`. Counts only the edited
-    /// characters.
+    /// Does the same as `new`, for a layout whose text an edit has made of that of `old`. Counts only the
+    /// edited characters.
     pub fn of_edited(
         alloc: Global,
         laid: Laid,
