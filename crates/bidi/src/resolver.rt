@@ -193,7 +193,6 @@ fn put_classes(properties: &[Properties], classes: &mut [BidiClass]) -> Summary
 }
 
 // Does the same as `put_classes`, for the last group.
-#[inline(never)] // otherwise, the compiler unrolls the loop, and does not vectorize it
 fn put_last(properties: &[Properties], classes: &mut [BidiClass]) -> Summary
     requires { length classes.old ≡ length properties.now }
     ensures classes { classes.new ≡ map class_in properties.now }
@@ -204,7 +203,7 @@ fn put_last(properties: &[Properties], classes: &mut [BidiClass]) -> Summary
 }
 
 // Does the same as `put_classes`.
-#[inline(always)] // so that the loop knows that it reads whole groups
+#[inline(never)] // otherwise, the compiler unrolls the loop for the last group, and does not vectorize it
 fn put_each(properties: &[Properties], classes: &mut [BidiClass]) -> Summary
     requires { length classes.old ≡ length properties.now }
     ensures classes { classes.new ≡ map class_in properties.now }
