@@ -43,6 +43,8 @@
 #   make test-pango Compares measured sessions with Pango, in C and in Python, after make c (installs Debian packages): two minutes.
 #   make test-programs  Tests three C programs that are written from the manual, against a simple model, less and ICU, after make c
 #                   (installs Debian packages): a minute.
+#   make test-joining  Compares the joining of Arabic letters with FriBidi, ICU, arabic-reshaper and HarfBuzz, after make (installs
+#                   Debian packages): a minute.
 #   make test-python  Tests the Python package, compares it with python-bidi and pyfribidi, and runs its mutants, after make c.
 #   make test-rust  Tests the Rust crates, also with Rust 1.63 (Debian 12), and runs their mutants, after make c.
 #   make test-hosts Runs examples/many on three hosts on the loopback address, and kills one during a run.
@@ -56,7 +58,7 @@ TABLES = DerivedBidiClass BidiBrackets BidiMirroring LineBreak DerivedGeneralCat
 OPTIONS = --width 44 --basedir
 
 .PHONY: all program cross-compiler quick ucd ucd-17 ucd-tests image demo check tmux parallel linters test attack bench-program conformance-program conformance bench c fribidi fribidi-compare \
-	callers install uninstall python deb dist test-packages test-reproducible test-arm64 test-threads test-draw test-widget test-guide test-recipes test-pango test-programs test-python test-rust test-hosts release
+	callers install uninstall python deb dist test-packages test-reproducible test-arm64 test-threads test-draw test-widget test-guide test-recipes test-pango test-programs test-joining test-python test-rust test-hosts release
 
 .DEFAULT_GOAL = all
 DIST = dist
@@ -101,7 +103,7 @@ lib-oom_calls lib-hordguli_c: lib-session
 lib-hordguli_c: lib-text_run lib-scripts
 lib-oom_calls: lib-test_tables
 lib-hordguli_fribidi: lib-bidi lib-joining lib-reorder
-run-table_tools: lib-ucd lib-tables
+run-table_tools: lib-joining lib-tables
 run-fribidi run-oom_driver: lib-tool
 run-fribidi: lib-tables lib-program_input
 run-hordguli: lib-terminal_options lib-tables lib-program_input
@@ -237,6 +239,9 @@ test-pango:
 
 test-programs:
 	@tests/programs/run
+
+test-joining: ucd-tests
+	@tests/joining/run
 
 test-python: ucd
 	tests/python/run --all

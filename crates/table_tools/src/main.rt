@@ -6,20 +6,29 @@
 //!   compares the tables of FriBidi's interface with this output.
 //! - `table_tools joining FOLDER` prints the joining types and presentation forms in ArabicShaping.txt and
 //!   UnicodeData.txt. `tests/ucd/joining` compares them with its own reading.
+//! - `table_tools join FOLDER` joins the letters of lines by these two files. Each line of standard input has
+//!   characters in logical order, for example `644:1 627:1`: the code point of each in hexadecimal, and its
+//!   level before L1, or `-` if X9 removes the character. For each line, prints the code points that it
+//!   shows. `tests/joining/run` compares them with those of other programs.
 //!
 //! VERSION is the Unicode version of the files, `15.0` (the default) or `17.0`.
 #![tactic(auto)]
 
 mod image;
-mod joining;
+mod joined_lines;
+mod joining_properties;
 mod properties;
 
 use anyhow::{Result, bail};
 use image::write_image;
-use joining::print_joining;
+use joined_lines::print_joined_lines;
+use joining_properties::print_joining;
 use properties::print_properties;
 use std::env;
 use ucd::Version;
+
+const USAGE: &str =
+    "table_tools image FOLDER FILE [VERSION], properties FOLDER [VERSION], joining FOLDER, join FOLDER";
 
 fn main(rt: HostRuntime) -> Result<()> {
     let words: Vec<String> = env::args(&rt)?.collect(rt.alloc())?;
@@ -45,13 +54,14 @@ fn run(rt: &HostRuntime, words: &[String]) -> Result<()> {
         if tool.as_str() == "joining" {
             return print_joining(rt, folder.as_str());
         }
+        if tool.as_str() == "join" {
+            return print_joined_lines(rt, folder.as_str());
+        }
         if tool.as_str() == "properties" {
             return print_properties(rt, Version::V15_0, folder.as_str());
         }
     }
-    bail!(
-        "usage: table_tools image FOLDER FILE [VERSION], table_tools properties FOLDER [VERSION], or table_tools joining FOLDER"
-    )
+    bail!("usage: {USAGE}")
 }
 
 // Returns the version with this name, or an error if the name is unknown.

@@ -9,14 +9,19 @@ use ucd::{Form, JoiningFiles, JoiningTables, JoiningType};
 /// Prints the joining types and presentation forms of characters, from the files in a folder. Each line has
 /// the joining type of a character if that is not U, or one of its forms.
 pub fn print_joining(rt: &HostRuntime, folder: &str) -> Result<()> {
+    let tables = read_tables(rt, folder)?;
+    write_buffered(rt, &tables)
+}
+
+/// Reads the tables from the files in a folder.
+pub fn read_tables(rt: &HostRuntime, folder: &str) -> Result<JoiningTables> {
     let arabic_shaping = read_file(rt, folder, "ArabicShaping.txt")?;
     let unicode_data = read_file(rt, folder, "UnicodeData.txt")?;
     let files = JoiningFiles {
         arabic_shaping: &arabic_shaping,
         unicode_data: &unicode_data,
     };
-    let tables = JoiningTables::read(rt.alloc(), &files)?;
-    write_buffered(rt, &tables)
+    Ok(JoiningTables::read(rt.alloc(), &files)?)
 }
 
 fn read_file(rt: &HostRuntime, folder: &str, name: &str) -> Result<Vec<u8>> {
